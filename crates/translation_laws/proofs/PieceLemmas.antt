@@ -1,12 +1,10 @@
 -- Each piece is the longest entry that the rest begins with, or one stroke; and no other list of pieces is so.
-use Rattle.std.proofs.Common.{◌≡◌, ◌≢◌, ℕ, ◌<◌, ◌≤◌, max, List, [], ◌∷◌, ◌++◌, length, take, drop, refl, sym, ap, subst, ◌∙◌, arith, Bool, true, false, true≢false, Contains, ◌⊎◌, inl, inr, append_assoc, append-nil, length-append, take_at, drop_at, take-append-drop, length-take-le, ◌↔◌}
+use Rattle.std.proofs.Common.{◌≡◌, ◌≢◌, ℕ, ◌<◌, ◌≤◌, max, List, [], ◌∷◌, ◌++◌, length, take, drop, refl, sym, ap, subst, ◌∙◌, arith, Contains, ◌⊎◌, inl, inr, length-append, take_at, drop_at, take-append-drop, length-take-le}
 use Rattle.std.specs.List.{concat}
 use Rattle.std.proofs.lemmas.Bool.{cases_lt}
-use Rattle.steno_rules.specs.Outlines.{is_entry}
 use Rattle.steno_rules.specs.Segments.{longest, IsLongest, first_piece, segments, AreSegments}
-use Rattle.steno_rules.proofs.Entries.{is_entry-Decides}
-use Rattle.steno_rules.proofs.LongestLemmas.{longest-found, longest-covers, longest-fits}
-use Rattle.steno_rules.proofs.SegmentLemmas.{length_pos, length-first_piece, segments-only, AreSegments-segments, concat-AreSegments, concat-segments}
+use Rattle.steno_rules.proofs.LongestLemmas.{longest-found, longest-covers}
+use Rattle.steno_rules.proofs.SegmentLemmas.{length-first_piece, segments-only, AreSegments-segments, concat-AreSegments}
 use Rattle.translation_laws.specs.Pieces.{IsMatch, IsLone}
 
 -- The longest entry, without the walk over all entries.

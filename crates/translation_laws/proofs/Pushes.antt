@@ -1,5 +1,5 @@
 -- One more stroke changes the pieces of the whole list just as it changes the pieces of the window.
-use Rattle.std.proofs.Common.{◌≡◌, ℕ, ◌≤◌, List, [], ◌∷◌, ◌++◌, length, refl, sym, ap, subst, ◌∙◌, arith, ◌⊎◌, inl, inr, append_assoc, append-nil, length-append}
+use Rattle.std.proofs.Common.{◌≡◌, ℕ, List, [], ◌∷◌, ◌++◌, length, refl, sym, ap, subst, ◌∙◌, ◌⊎◌, inl, inr, append_assoc, append-nil}
 use Rattle.std.specs.List.{concat}
 use Rattle.steno_rules.specs.Segments.{segments}
 use Rattle.steno_rules.specs.Live.{merge, ReplacesLongestRun, AddsStroke}

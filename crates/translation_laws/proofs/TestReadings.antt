@@ -1,6 +1,6 @@
 -- The tests on entries and words say what they seem to say.
-use Rattle.std.proofs.Common.{◌≡◌, ℕ, ◌<◌, ◌≤◌, List, [], ◌∷◌, ◌++◌, length, take, drop, refl, sym, ap, subst, ◌∙◌, arith, Bool, true, false, Contains, ◌⊎◌, inl, inr, ◌↔◌, take_at, take-append-drop, length-append}
-use Rattle.steno_rules.specs.Outlines.{begins_with, is_entry, is_word}
+use Rattle.std.proofs.Common.{◌≡◌, ℕ, ◌<◌, List, [], ◌++◌, length, take, drop, refl, sym, ap, subst, ◌∙◌, arith, true, Contains, ◌⊎◌, inl, inr, ◌↔◌, take_at, take-append-drop, length-append}
+use Rattle.steno_rules.specs.Outlines.{begins_with}
 use Rattle.steno_rules.specs.Windows.{is_prefix}
 use Rattle.steno_rules.specs.States.{is_open}
 use Rattle.steno_rules.proofs.Entries.{begins_with-Decides, is_entry-Decides}

@@ -1,14 +1,11 @@
 -- The window is an end of the list, begins an entry, and grows by at most one stroke at a time.
-use Rattle.std.proofs.Common.{◌≡◌, ℕ, ◌+◌, ◌<◌, ◌≤◌, List, [], ◌∷◌, ◌++◌, length, take, refl, sym, ap, ◌∙◌, arith, Bool, true, false, true≢false, Contains, ◌⊎◌, inl, inr, append_assoc, append-nil, length-append, length-take}
+use Rattle.std.proofs.Common.{◌≡◌, ℕ, ◌+◌, ◌≤◌, List, [], ◌∷◌, ◌++◌, length, ap, ◌∙◌, arith, true, Contains, ◌⊎◌, inl, inr, length-append, length-take}
 use Rattle.std.specs.List.{concat}
 use Rattle.std.proofs.lemmas.List.{length_push}
-use Rattle.steno_rules.specs.Outlines.{is_entry}
 use Rattle.steno_rules.specs.Segments.{segments, AreSegments}
-use Rattle.steno_rules.specs.Windows.{is_prefix, window, window_pieces, IsWindowEnd}
+use Rattle.steno_rules.specs.Windows.{is_prefix, window}
 use Rattle.steno_rules.proofs.Prefixes.{is_prefix-found}
-use Rattle.steno_rules.proofs.SegmentLemmas.{AreSegments-segments, concat-segments, length_pos, length-first_piece}
-use Rattle.translation_laws.specs.Pieces.{IsMatch, IsLone}
-use Rattle.translation_laws.proofs.PieceLemmas.{pieces-are, piece-some}
+use Rattle.steno_rules.proofs.SegmentLemmas.{AreSegments-segments, concat-segments, length-first_piece}
 use Rattle.translation_laws.proofs.WindowLemmas.{window-push}
 use Rattle.translation_laws.proofs.Readings.{window-is_end, whole_window, end_of}
 
