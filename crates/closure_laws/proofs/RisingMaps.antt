@@ -21,34 +21,6 @@ module _ {X Y : Type 0} where
     | inr later ↦ Contains-append_right (f z) (flat_map f xs) y (in_flat_map_of f xs x y later k)
   ]
 
--- ---- members that pass a test
-
-module _ {X : Type 0} (f : X → Bool) where
-  -- what is left of a list by a test is what passes it
-  pub in_filter : (xs : List X) (x : X) → Contains (filter f xs) x ↔ (Contains xs x × (f x ≡ true))
-  in_filter [] x = (λ h. absurd (none_in_nil x h), λ h. absurd (none_in_nil x h.0))
-  in_filter (y ∷ xs) x = by (f y) refl (in_filter xs x)
-    where
-      by : (b : Bool) → f y ≡ b → (Contains (filter f xs) x ↔ (Contains xs x × (f x ≡ true))) →
-          Contains (cond b (y ∷ filter f xs) (filter f xs)) x ↔ (Contains (y ∷ xs) x × (f x ≡ true))
-      by true is rest = (
-        λ h. elim (in_cons y (filter f xs) x h) [
-          | inl same ↦ (subst (Contains (y ∷ xs)) same (in_first y xs), subst (λ i. f i ≡ true) same is)
-          | inr later ↦ let k = rest.0 later in (in_later y xs x k.0, k.1)
-        ],
-        λ h. elim (in_cons y xs x h.0) [
-          | inl same ↦ subst (Contains (y ∷ filter f xs)) same (in_first y (filter f xs))
-          | inr later ↦ in_later y (filter f xs) x (rest.1 (later, h.1))
-        ],
-      )
-      by false is rest = (
-        λ h. let k = rest.0 h in (in_later y xs x k.0, k.1),
-        λ h. elim (in_cons y xs x h.0) [
-          | inl same ↦ absurd (true≢false (sym h.1 ∙ ap f (sym same) ∙ is))
-          | inr later ↦ rest.1 (later, h.1)
-        ],
-      )
-
 -- ---- the same list over other numbers
 
 module _ {Y : Type 0} where
