@@ -19,6 +19,7 @@ longest-is entries x = record {
       longest-covers entries x (length e) (omega (arith, ap length split, length-append e rest)) (rw front has);
 }
 
+-- of two such lengths none is greater
 below : (entries : List (List ℕ)) (x : List ℕ) (n m : ℕ) → IsLongest entries x n → IsLongest entries x m → n ≤ m
 below entries x n m a b = elim (a.found) [
   | inl none ↦ omega (arith, none)
@@ -29,6 +30,7 @@ below entries x n m a b = elim (a.found) [
 pub longest-only : (entries : List (List ℕ)) (x : List ℕ) (n : ℕ) → IsLongest entries x n → n ≡ longest entries x
 longest-only entries x n h = omega (arith, below entries x n (longest entries x) h (longest-is entries x), below entries x (longest entries x) n (longest-is entries x) h)
 
+-- a list without strokes
 empty_of : (e : List ℕ) → length e ≤ 0 → e ≡ []
 empty_of [] h = refl
 empty_of (c ∷ e) h = absurd (omega (arith, h))
@@ -57,6 +59,7 @@ first_is entries p after some is =
       })
     ]
 
+-- the same, of any pieces of x
 pieces_at : (entries : List (List ℕ)) (x : List ℕ) (before : List (List ℕ)) (p : List ℕ) (after : List (List ℕ)) → AreSegments entries x (before ++ p ∷ after) →
     IsMatch entries p (concat after) ⊎ IsLone entries p (concat after)
 pieces_at entries x [] p after h =
@@ -85,6 +88,7 @@ piece_first entries p after (inr h) =
     let none : 0 ≡ longest entries (p ++ after) = longest-only entries (p ++ after) 0 (record { found = inl refl; no_longer = λ e rest has split. omega (arith, ap length (h.no_entry e rest has split)) }) in
     sym (take_at p after (max 1 (longest entries (p ++ after))) (omega (arith, none, h.one)))
 
+-- pieces that are each a match or a lone stroke are the pieces of what they make
 are_segments : (entries ps : List (List ℕ)) →
     ((before : List (List ℕ)) (p : List ℕ) (after : List (List ℕ)) → ps ≡ before ++ p ∷ after → IsMatch entries p (concat after) ⊎ IsLone entries p (concat after)) →
     AreSegments entries (concat ps) ps

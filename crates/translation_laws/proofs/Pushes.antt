@@ -9,6 +9,7 @@ use Rattle.translation_laws.proofs.Readings.{merge-reads}
 use Rattle.translation_laws.proofs.WindowLemmas.{segments-push, segments-window, window_pieces-merge}
 use Rattle.translation_laws.proofs.StrongWindow.{pieces_before}
 
+-- what one more stroke does, by the number of pieces that it takes
 push_of : (entries old : List (List ℕ)) (c : ℕ) (new : List (List ℕ)) → ReplacesLongestRun entries old c new ⊎ AddsStroke entries old c new → (replaced : ℕ) × IsPush old c new replaced
 push_of entries old c new (inl h) = (length h.run, record { kept = h.kept; run = h.run; before = h.makes.split; after = h.replaced; count = refl })
 push_of entries old c new (inr h) = (0, record { kept = old; run = []; before = sym (append-nil old); after = h.added; count = refl })

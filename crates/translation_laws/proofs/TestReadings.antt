@@ -11,6 +11,7 @@ use Rattle.steno_rules.proofs.Words.{open_word, open_of_word}
 rest_of : (x e : List ℕ) → x ≡ take (length x) e → (rest : List ℕ) × (e ≡ x ++ rest)
 rest_of x e is = (drop (length x) e, sym (take-append-drop (length x) e) ∙ ap (λ l. l ++ drop (length x) e) (sym is))
 
+-- and x is the front of x and more strokes
 front_of : (x e rest : List ℕ) → e ≡ x ++ rest → x ≡ take (length x) e
 front_of x e rest is = sym (ap (take (length x)) is ∙ take_at x rest (length x) refl)
 

@@ -31,6 +31,7 @@ window-grows entries x c =
     let end = window-end entries (window entries x ++ c ∷ []) in
     omega (arith, ap length (window-push entries x c), ap length end.1, length-append end.0 (window entries (window entries x ++ c ∷ [])), length_push (window entries x) c)
 
+-- pieces are no more than strokes
 few : (entries : List (List ℕ)) (x : List ℕ) (ps : List (List ℕ)) → AreSegments entries x ps → length ps ≤ length (concat ps)
 few entries x [] h = omega arith
 few entries x (p ∷ ps) h =
