@@ -1,0 +1,73 @@
+//! Files in memory that never fail, by contract: over them no fault can be answered.
+
+ghost use Rattle.std.specs.Prelude.{◌≡◌, [], OnOk, OnErr};
+ghost use Rattle.outside.specs.HeldFiles.{no_files, Sets};
+ghost use Rattle.outside.specs.Mem.{plain_held};
+
+use crate::held_files::HeldFiles;
+use crate::{Failed, Files, OutsideFault};
+use std::alloc::{AllocError, Global};
+
+/// Files in memory whose count of faults is 0 for ever. A name that isn't held reads as an empty file. A file that is opened
+/// is copied.
+#[derive(Drop)]
+pub struct PlainFiles {
+    files: HeldFiles,
+}
+
+impl PlainFiles {
+    /// No files.
+    pub fn new(alloc: Global) -> PlainFiles
+        ensures { plain_held result ≡ no_files }
+    {
+        PlainFiles {
+            files: HeldFiles::new(alloc),
+        }
+    }
+
+    /// Holds a file with these bytes, in the place of one of that name.
+    pub fn add(&mut self, name: &str, bytes: &[u8]) -> Result<(), AllocError>
+        ensures ok { OnOk result (Sets name.now bytes.now (plain_held self.old).kept (plain_held self.new).kept) }
+        ensures err { OnErr result ((plain_held self.new).kept ≡ (plain_held self.old).kept) }
+        ensures others { plain_held self.new ≡ record (plain_held self.old) { kept = (plain_held self.new).kept } }
+    {
+        self.files.add(name, bytes)
+    }
+}
+
+impl Files for PlainFiles {
+    ghost use Rattle.outside.specs.HeldFiles.{plain_view};
+    ghost use Rattle.outside.specs.Mem.{plain_held};
+
+    ghost view = { λ p. plain_view (plain_held p) };
+
+    fn open_file(&mut self, name: &str) -> Result<(), OutsideFault> {
+        match self.files.open(name) {
+            Ok(()) => Ok(()),
+            Err(_) => Err(OutsideFault::Memory),
+        }
+    }
+
+    fn take(&mut self, into: &mut [u8]) -> Result<usize, Failed> {
+        Ok(self.files.take(into))
+    }
+
+    fn begin(&mut self, name: &str) -> Result<(), OutsideFault> {
+        match self.files.begin(name) {
+            Ok(()) => Ok(()),
+            Err(_) => Err(OutsideFault::Memory),
+        }
+    }
+
+    fn put(&mut self, piece: &[u8]) -> Result<usize, OutsideFault> {
+        match self.files.put(piece) {
+            Ok(()) => Ok(piece.len()),
+            Err(_) => Err(OutsideFault::Memory),
+        }
+    }
+
+    fn end(&mut self) -> Result<(), Failed> {
+        self.files.end();
+        Ok(())
+    }
+}
