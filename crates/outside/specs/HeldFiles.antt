@@ -46,7 +46,3 @@ files_view h = record {
   latest = h.places.latest;
   faults = h.places.faults;
 }
-
--- the same, where no call fails: no fault was ever counted
-abbrev pub plain_view : HeldView → FilesView
-plain_view h = record (files_view h) { latest = None; faults = 0 }

@@ -1,7 +1,9 @@
 //! A sink in memory that fails where it is told to, for tests of what stands above.
 
-ghost use Rattle.std.specs.Prelude.{◌≡◌, []};
-ghost use Rattle.outside.specs.Script.{no_script};
+ghost use Rattle.std.specs.Prelude.{◌≡◌, ◌<◌, ◌≤◌, [], length, take, IfOk, OnErr, IsTrue, Some};
+ghost use Rattle.std.specs.Io.KnownBytes.{append_known};
+ghost use Rattle.outside.specs.Faults.{Rose, is_failed};
+ghost use Rattle.outside.specs.Script.{AsDue, counted, is_listed, no_script};
 
 use crate::script::Script;
 use crate::{OutsideFault, Sink};
@@ -53,6 +55,7 @@ impl MemSink {
     }
 }
 
+/// Each clause of the trait, and two more: the count of calls, and that a call fails exactly where it is listed.
 impl Sink for MemSink {
     ghost use Rattle.std.specs.Prelude.{Some};
 
@@ -60,7 +63,17 @@ impl Sink for MemSink {
 
     ghost faults = { λ s. s.faults };
 
-    fn put(&mut self, piece: &[u8]) -> Result<usize, OutsideFault> {
+    fn put(&mut self, piece: &[u8]) -> Result<usize, OutsideFault>
+        requires { 0 < length piece.now }
+        ensures taken { IfOk result (λ n. n ≤ length piece.now) }
+        ensures some { IfOk result (λ n. 0 < n) }
+        ensures appends { IfOk result (λ n. Some self.new.text ≡ append_known (Some self.old.text) (take n piece.now)) }
+        ensures refused { OnErr result (Some self.new.text ≡ Some self.old.text) }
+        ensures later { self.old.faults ≤ self.new.faults }
+        ensures failed { IsTrue (is_failed result) → Rose self.old.faults self.new.faults }
+        ensures script { self.new.script ≡ counted self.old.script }
+        ensures due { AsDue (is_listed self.old.script) result }
+    {
         if self.script.fails() {
             self.faults = self.faults.saturating_add(1);
             return Err(OutsideFault::Failed);

@@ -1,8 +1,8 @@
 //! Files in memory that never fail, by contract: over them no fault can be answered.
 
-ghost use Rattle.std.specs.Prelude.{◌≡◌, [], OnOk, OnErr};
-ghost use Rattle.outside.specs.HeldFiles.{no_files, Sets};
-ghost use Rattle.outside.specs.Mem.{plain_held};
+ghost use Rattle.std.specs.Prelude.{◌≡◌, [], Some, OnOk, OnErr};
+ghost use Rattle.outside.specs.Files.{Both, Replaces, untouched};
+ghost use Rattle.outside.specs.Mem.{plain_view};
 
 use crate::held_files::HeldFiles;
 use crate::{Failed, Files, OutsideFault};
@@ -18,7 +18,7 @@ pub struct PlainFiles {
 impl PlainFiles {
     /// No files.
     pub fn new(alloc: Global) -> PlainFiles
-        ensures { plain_held result ≡ no_files }
+        ensures { plain_view result ≡ untouched (Some (λ _. [])) }
     {
         PlainFiles {
             files: HeldFiles::new(alloc),
@@ -27,19 +27,18 @@ impl PlainFiles {
 
     /// Holds a file with these bytes, in the place of one of that name.
     pub fn add(&mut self, name: &str, bytes: &[u8]) -> Result<(), AllocError>
-        ensures ok { OnOk result (Sets name.now bytes.now (plain_held self.old).kept (plain_held self.new).kept) }
-        ensures err { OnErr result ((plain_held self.new).kept ≡ (plain_held self.old).kept) }
-        ensures others { plain_held self.new ≡ record (plain_held self.old) { kept = (plain_held self.new).kept } }
+        ensures ok { OnOk result (Both (Replaces name.now bytes.now) (plain_view self.old).held (plain_view self.new).held) }
+        ensures err { OnErr result ((plain_view self.new).held ≡ (plain_view self.old).held) }
+        ensures others { plain_view self.new ≡ record (plain_view self.old) { held = (plain_view self.new).held } }
     {
         self.files.add(name, bytes)
     }
 }
 
 impl Files for PlainFiles {
-    ghost use Rattle.outside.specs.HeldFiles.{plain_view};
-    ghost use Rattle.outside.specs.Mem.{plain_held};
+    ghost use Rattle.outside.specs.Mem.{plain_view};
 
-    ghost view = { λ p. plain_view (plain_held p) };
+    ghost view = { plain_view };
 
     fn open_file(&mut self, name: &str) -> Result<(), OutsideFault> {
         match self.files.open(name) {
