@@ -1,10 +1,8 @@
 //! What the system does with real files and with the standard output.
 
 use crate::{
-    Failed, Files, OutsideFault, ReadFault, RealFiles, RealSink, read_all, write_all,
-    write_all_file,
+    Files, OutsideFault, ReadFault, RealFiles, RealSink, read_all, write_all, write_all_file,
 };
-use std::alloc::Global;
 use std::path::PathBuf;
 use std::test::Fail;
 use std::{env, fs, process};
@@ -17,60 +15,63 @@ fn new_folder(rt: &HostRuntime) -> Result<PathBuf, Fail> {
     Ok(folder)
 }
 
-#[test]
-fn reads_and_writes_real_files(rt: HostRuntime) -> Result<(), Fail> {
+/// Writes a file, whose content has `len` bytes, and reads it back.
+fn copies(rt: &HostRuntime, path: &str, len: u32) -> Result<bool, Fail> {
     let alloc = rt.alloc();
-    let folder = new_folder(&rt)?;
-    let empty = folder.join(alloc, "empty")?;
-    let long = folder.join(alloc, "long")?;
-    let missing = folder.join(alloc, "missing")?;
-    let in_missing = missing.join(alloc, "file")?;
-    let mut files = RealFiles::new(&rt, alloc);
-
     let mut bytes: Vec<u8> = Vec::new(alloc);
-    for i in 0..5_000_000u32 {
+    for i in 0..len {
         bytes.push((i % 251) as u8)?;
     }
-    files.begin(long.as_str())?;
+    let mut files = RealFiles::new(rt, alloc);
+    files.begin(path)?;
     write_all_file(&mut files, &bytes)?;
-    assert_eq!(rt; files.end(), Ok(()));
-    files.begin(empty.as_str())?;
-    assert_eq!(rt; files.end(), Ok(()));
+    let ended = files.end().is_ok();
+    let read = read_all(alloc, &mut files, path, len as u64)?;
+    Ok(ended && read.as_slice() == bytes.as_slice())
+}
 
-    let read = read_all(alloc, &mut files, long.as_str(), 5_000_000)?;
-    assert!(rt; read.as_slice() == bytes.as_slice());
-    for (path, limit, fault) in [
-        (&empty, 0, None),
-        (&long, 4_999_999, Some(ReadFault::TooLong)),
-        (&missing, 9, Some(ReadFault::Failed)),
-        (&folder, 9, Some(ReadFault::Failed)),
-    ] {
-        match read_all(alloc, &mut files, path.as_str(), limit) {
-            Ok(bytes) => {
-                assert!(rt; bytes.is_empty());
-                assert_eq!(rt; fault, None);
-            }
-            Err(answer) => assert_eq!(rt; Some(answer), fault),
-        }
+/// The fault at reading a file.
+fn read_fault(rt: &HostRuntime, path: &str, limit: u32) -> Option<ReadFault> {
+    let mut files = RealFiles::new(rt, rt.alloc());
+    read_all(rt.alloc(), &mut files, path, limit as u64).err()
+}
+
+/// The fault at writing three bytes to a file.
+fn write_fault(rt: &HostRuntime, path: &str) -> Option<OutsideFault> {
+    let mut files = RealFiles::new(rt, rt.alloc());
+    match files.begin(path) {
+        Ok(()) => write_all_file(&mut files, b"one").err(),
+        Err(fault) => Some(fault),
     }
-    assert_eq!(rt; files.begin(in_missing.as_str()), Err(OutsideFault::Failed));
-    assert_eq!(rt; files.begin(folder.as_str()), Err(OutsideFault::Failed));
-    fs::remove_dir_all(&rt, folder.as_path())?;
-    Ok(())
 }
 
 #[test]
-fn a_full_device_is_a_fault(rt: HostRuntime) -> Result<(), Fail> {
-    let mut files = RealFiles::new(&rt, rt.alloc());
-    files.begin("/dev/full")?;
-    assert_eq!(rt;
-        write_all_file(&mut files, b"one"),
-        Err(OutsideFault::Failed)
-    );
-    assert_eq!(rt; files.end(), Ok(()));
-    files.begin("/dev/null")?;
-    write_all_file(&mut files, b"one")?;
-    assert_eq!(rt; files.end(), Ok(()));
+fn real_files(rt: HostRuntime) -> Result<(), Fail> {
+    let folder = new_folder(&rt)?;
+    let file = folder.join(rt.alloc(), "file")?;
+    let missing = folder.join(rt.alloc(), "missing")?;
+    let in_missing = missing.join(rt.alloc(), "file")?;
+    for len in [0, 1, 65_536, 5_000_000] {
+        assert!(rt; copies(&rt, file.as_str(), len)?, "{len} bytes");
+    }
+    for (path, limit, fault) in [
+        (file.as_str(), 5_000_000, None),
+        (file.as_str(), 4_999_999, Some(ReadFault::TooLong)),
+        (missing.as_str(), 9, Some(ReadFault::Failed)),
+        (folder.as_str(), 9, Some(ReadFault::Failed)),
+    ] {
+        assert_eq!(rt; read_fault(&rt, path, limit), fault, "{path}");
+    }
+    for (path, fault) in [
+        (file.as_str(), None),
+        ("/dev/null", None),
+        ("/dev/full", Some(OutsideFault::Failed)),
+        (in_missing.as_str(), Some(OutsideFault::Failed)),
+        (folder.as_str(), Some(OutsideFault::Failed)),
+    ] {
+        assert_eq!(rt; write_fault(&rt, path), fault, "{path}");
+    }
+    fs::remove_dir_all(&rt, folder.as_path())?;
     Ok(())
 }
 
