@@ -1,5 +1,5 @@
 -- What the loop that reads a whole file keeps.
-use Rattle.std.proofs.Common.{ℕ, ◌≡◌, ◌≤◌, List, length, Option, Some, option_map}
+use Rattle.std.proofs.Common.{ℕ, ◌≡◌, ◌≤◌, List, length, Some, option_map}
 use Rattle.std.specs.Io.KnownBytes.{prepend_known}
 use Rattle.outside.specs.Files.{FilesView}
 

@@ -1,5 +1,5 @@
 -- What contracts see of an object that holds files.
-use Rattle.std.specs.Prelude.{ℕ, List, [], ◌++◌, ◌≡◌, ◌≢◌, ◌≤◌, take, Option, None, Some, option_map, Bool, if◌then◌else◌, IsTrue, Result, ⊤, length}
+use Rattle.std.specs.Prelude.{ℕ, List, [], ◌++◌, ◌≡◌, ◌≢◌, ◌≤◌, take, Option, None, Some, option_map, ⊤, length}
 use Rattle.outside.specs.Faults.{Rose}
 use Rattle.outside.specs.declared.fault.Way.{Way}
 

@@ -1,7 +1,7 @@
 -- What contracts see of the objects in memory.
 use Rattle.std.specs.Prelude.{ℕ, List, None}
 use Rattle.outside.specs.Files.{FilesView}
-use Rattle.outside.specs.HeldFiles.{Kept, kept_in, held_view, files_view}
+use Rattle.outside.specs.HeldFiles.{Kept, held_view, files_view}
 use Rattle.outside.specs.Script.{ScriptView}
 use Rattle.outside.specs.declared.mem_files.MemFiles.{MemFiles}
 use Rattle.outside.specs.declared.plain_files.PlainFiles.{PlainFiles}

@@ -1,5 +1,5 @@
 -- How the names and places are kept: a list of names, and numbers of names.
-use Rattle.std.specs.Prelude.{ℕ, ◌<◌, List, [], length, map, Option, option_map, String, string_bytes, slice_index_or}
+use Rattle.std.specs.Prelude.{ℕ, ◌<◌, List, [], length, map, option_map, String, string_bytes, slice_index_or}
 use Rattle.std.specs.Option.{ForSome}
 use Rattle.std.specs.declared.alloc.Global.{Global}
 use Rattle.outside.specs.Places.{PlacesView}
