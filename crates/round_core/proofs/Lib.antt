@@ -11,3 +11,4 @@ pub mod Enabled
 pub mod Schedules
 pub mod HandMoves
 pub mod Steps
+pub mod Samples

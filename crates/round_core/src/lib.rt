@@ -27,6 +27,8 @@ mod round;
 mod search;
 mod settled;
 mod step_graph;
+#[cfg(test)]
+mod tests;
 mod word;
 
 pub use event::Event;
