@@ -1,16 +1,9 @@
 -- The moves that are left in a hand.
-use Rattle.std.proofs.Common.{◌≡◌, ℕ, suc, ◌+◌, ◌-◌, ◌≤◌, ◌<◌, ◌⊎◌, List, [], ◌∷◌, ◌++◌, length, get_or, take, drop, Option, Some, None, sym, ap, ◌∙◌, arith, inl, inr, false, true≢false}
+use Rattle.std.proofs.Common.{◌≡◌, ℕ, suc, ◌+◌, ◌-◌, ◌<◌, List, [], ◌∷◌, ◌++◌, length, get_or, take, drop, Option, Some, None, sym, ap, ◌∙◌, arith, false, true≢false}
 use Rattle.std.specs.Prelude.{MatchOption, is_some}
 use Rattle.graph_rules.specs.Graphs.{row}
 use Rattle.round_core.specs.Machines.{Move, moves_from, moves_in}
-use Rattle.round_core.proofs.Places.{drop_at, drop_past, take_one, take_none}
-
-pub no_moves : (ls : List (List ℕ)) (s : ℕ) (xs front : List ℕ) (at more : ℕ) → xs ≡ [] → (more ≡ 0) ⊎ (length front ≤ at) → moves_from s xs ++ moves_in ls (take more (drop at front)) ≡ []
-no_moves ls s xs front at more none how = ap (λ l. moves_from s l ++ moves_in ls (take more (drop at front))) none ∙ by how
-  where
-    by : (more ≡ 0) ⊎ (length front ≤ at) → moves_in ls (take more (drop at front)) ≡ []
-    by (inl z) = ap (λ n. moves_in ls (take n (drop at front))) z
-    by (inr past) = ap (λ l. moves_in ls (take more l)) (drop_past at front past) ∙ ap (moves_in ls) (take_none more)
+use Rattle.round_core.proofs.Places.{drop_at, take_one}
 
 -- a batch in hand, before its first move
 pub batch_moves : (ls : List (List ℕ)) (front : List ℕ) (at size state next : ℕ) (ys : List ℕ) → 0 < size → at < length front → state ≡ get_or front at 0 → next ≡ at + 1 → ys ≡ row ls state

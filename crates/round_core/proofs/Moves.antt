@@ -12,7 +12,6 @@ use Rattle.round_core.proofs.Places.{get_below, get_drop, get_front, get_of_drop
 
 -- ---- batches
 
--- batches
 pub batch_has : (front : List ℕ) (size p i : ℕ) → 0 < size → slice_get front i ≡ Some p → (i / size < batch_count (length front) size) × Has (batch_of front size (i / size)) p
 batch_has front size p i some e = (
   below,
@@ -28,14 +27,14 @@ batch_has front size p i some e = (
 pub batch_below : (states size b : ℕ) → 0 < size → b < batch_count states size → b * size < states
 batch_below states size b some lt = elim (cases_lt (b * size) states) [
   | inl below ↦ below
-  | inr ge ↦ absurd (let h : states + (size - 1) < suc b * size = (let s : suc b * size ≡ b * size + size = omega arith in omega (arith, s, ge, some)) in let l = div_below (states + (size - 1)) size (suc b) some (let e : states + (size - 1) < suc b * size = h in e) in after_all b states size lt l over)
+  | inr ge ↦ absurd (none (div_below (states + (size - 1)) size (suc b) some (past ge)))
 ]
   where
-    over : ℕ
-    over = 0
+    past : states ≤ b * size → states + (size - 1) < suc b * size
+    past ge = let s : suc b * size ≡ b * size + size = omega arith in omega (arith, s, ge, some)
 
-    after_all : (b states size : ℕ) → b < batch_count states size → batch_count states size < suc b → ℕ → ⊥
-    after_all b states size l m n = omega (arith, l, m)
+    none : batch_count states size < suc b → ⊥
+    none l = omega (arith, lt, l)
 
 pub in_batch : (front : List ℕ) (size b s : ℕ) → Has (batch_of front size b) s → Has front s
 in_batch front size b s h = get_of_drop front (b * size) h.0 s (get_of_take (drop (b * size) front) size h.0 s h.1)
@@ -52,7 +51,6 @@ batches_short states size some positive = let l = div_below (states + (size - 1)
 
 -- ---- the moves that are in a list
 
--- moves that are left
 abbrev pub InMoves : List Move → ℕ → ℕ → Type 0
 InMoves moves p t = (i : ℕ) × (slice_get moves i ≡ Some (record { source = p; target = t }))
 

@@ -1,5 +1,5 @@
 -- Elements of lists by their places.
-use Rattle.std.proofs.Common.{◌≡◌, ◌≢◌, ℕ, zero, suc, ◌+◌, ◌-◌, ◌≤◌, ◌<◌, ◌⊎◌, List, [], ◌∷◌, ◌++◌, length, get_or, set, take, drop, Some, None, sym, ap, subst, ◌∙◌, refl, arith, inl, inr, replicate}
+use Rattle.std.proofs.Common.{◌≡◌, ◌≢◌, ℕ, zero, suc, ◌+◌, ◌-◌, ◌≤◌, ◌<◌, ◌⊎◌, List, [], ◌∷◌, ◌++◌, length, get_or, set, take, drop, Some, sym, ap, subst, ◌∙◌, refl, arith, inl, inr, replicate}
 use Rattle.std.specs.Prelude.{slice_get}
 use Rattle.std.proofs.lemmas.List.{get_or_append_left}
 use Rattle.std.proofs.lemmas.Grind.{get_or_default_zero}
@@ -24,12 +24,6 @@ get_below [] i x e = absurd (cc e)
 get_below (z ∷ xs) zero x e = omega arith
 get_below (z ∷ xs) (suc i) x e = let l = get_below xs i x e in omega (arith, l)
 
-pub get_past : {A : Type 0} (xs : List A) (i : ℕ) → length xs ≤ i → slice_get xs i ≡ None
-get_past [] i le = refl
-get_past (x ∷ xs) zero le = absurd (omega (arith, le))
-get_past (x ∷ xs) (suc i) le = get_past xs i (omega (arith, le))
-
--- lists
 pub get_set_same : {A : Type 0} (xs : List A) (i : ℕ) (x y : A) → slice_get xs i ≡ Some y → slice_get (set xs i x) i ≡ Some x
 get_set_same [] i x y e = absurd (cc e)
 get_set_same (z ∷ xs) zero x y e = refl
@@ -46,16 +40,6 @@ get_set_other (z ∷ xs) zero zero x other = absurd (other refl)
 get_set_other (z ∷ xs) zero (suc j) x other = refl
 get_set_other (z ∷ xs) (suc i) zero x other = refl
 get_set_other (z ∷ xs) (suc i) (suc j) x other = get_set_other xs i j x (λ e. other (ap suc e))
-
-pub set_set : {A : Type 0} (xs : List A) (i : ℕ) (x y : A) → set (set xs i x) i y ≡ set xs i y
-set_set [] i x y = refl
-set_set (z ∷ xs) zero x y = refl
-set_set (z ∷ xs) (suc i) x y = ap (λ l. z ∷ l) (set_set xs i x y)
-
-pub set_get : {A : Type 0} (xs : List A) (i : ℕ) (x : A) → slice_get xs i ≡ Some x → set xs i x ≡ xs
-set_get [] i x e = refl
-set_get (z ∷ xs) zero x e = ap (λ y. y ∷ xs) (let same : z ≡ x = cc e in sym same)
-set_get (z ∷ xs) (suc i) x e = ap (λ l. z ∷ l) (set_get xs i x e)
 
 pub get_drop : {A : Type 0} (xs : List A) (n j : ℕ) (x : A) → slice_get xs (n + j) ≡ Some x → slice_get (drop n xs) j ≡ Some x
 get_drop [] n j x e = absurd (cc e)

@@ -13,7 +13,7 @@ use Rattle.round_core.proofs.Members.{has_none, has_snoc, has_cons, has_first, h
 
 -- ---- members and order
 
--- rising order
+-- no number stands twice
 abbrev pub AreDistinct : List ℕ → Type 0
 AreDistinct [] = Unit {0}
 AreDistinct (x ∷ xs) = ((y : ℕ) → Has xs y → x ≢ y) × AreDistinct xs

@@ -100,18 +100,6 @@ module _ {C : Type 0} (left : C → List ℕ) (ls : List (List ℕ)) (front : Li
   free_view (None ∷ hs) = free_view hs
   free_view (Some h ∷ hs) = refl
 
-  pub free_at_view : (hs : List (Option (Hand C))) (w : ℕ) → is_free (slice_get (map (hand_view left ls front) hs) w) ≡ is_free (slice_get hs w)
-  free_at_view [] w = refl
-  free_at_view (None ∷ hs) zero = refl
-  free_at_view (Some h ∷ hs) zero = refl
-  free_at_view (h ∷ hs) (suc w) = free_at_view hs w
-
-  pub busy_at_view : (hs : List (Option (Hand C))) (w : ℕ) → is_busy (slice_get (map (hand_view left ls front) hs) w) ≡ is_busy (slice_get hs w)
-  busy_at_view [] w = refl
-  busy_at_view (None ∷ hs) zero = refl
-  busy_at_view (Some h ∷ hs) zero = refl
-  busy_at_view (h ∷ hs) (suc w) = busy_at_view hs w
-
   -- what is left doesn't depend on the frontier where no hand is held
   pub free_same : (now : List ℕ) (hs : List (Option (Hand C))) → all_free hs ≡ true → map (hand_view left ls now) hs ≡ map (hand_view left ls front) hs
   free_same now [] e = refl
@@ -135,10 +123,6 @@ module _ {C : Type 0} (left : C → List ℕ) (ls : List (List ℕ)) (front : Li
 module _ {C : Type 0} (owns : C → Type 0) where
   pub free_owned : (n : ℕ) → Owned owns (replicate n None)
   free_owned n w h is = absurd (let e : None ≡ Some h = get_replicate_is n w None (Some h) is in cc e)
-
-  pub owned_at : (hs : List (Option (Hand C))) (w : ℕ) (h : Option (Hand C)) → Owned owns hs → slice_get hs w ≡ Some h → OwnsHand owns h
-  owned_at hs w None all is = tt
-  owned_at hs w (Some h) all is = all w h is
 
   pub owned_set : (hs : List (Option (Hand C))) (w : ℕ) (x : Option (Hand C)) → w < length hs → Owned owns hs → OwnsHand owns x → Owned owns (set hs w x)
   owned_set hs w x lt all mine v k is = elim (same_or_not v w) [

@@ -11,7 +11,7 @@
 //! - [`RoundState`] is the machine of which each search by rounds is a schedule: workers take batches of the frontier and make
 //!   one move at a time, in any order. [`round_law`] says that each schedule finds the settled words.
 //!
-//! Neither takes memory once it has begun: the words are 8 bytes a number, the queue 4.
+//! Both take all their memory at the beginning: 12 bytes a number for the search, 17 for the machine.
 #![tactic(auto)]
 
 ghost use Rattle.std.specs.Prelude.{◌≡◌, ℕ, ◌<◌, List, [], length, false, slice_index};

@@ -18,7 +18,8 @@ use std::mem;
 
 /// The round machine over a graph, which it borrows.
 ///
-/// It holds a word and three flags or places a number. All its memory is taken when it is made.
+/// All its memory is taken when it is made: for each number its word, a place in the frontier, one among the noted and a flag
+/// of a batch, and for each worker a hand.
 #[derive(Drop)]
 pub struct RoundState<'a, G: StepGraph> {
     graph: &'a G,
