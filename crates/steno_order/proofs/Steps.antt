@@ -39,9 +39,9 @@ not_lower a b ge = elim (false_or_true (nat_lt a b)) [ inl is ↦ (let lt = ltb-
 later : (last least key : ℕ) → (nat_lt last key && nat_le least key) ≡ nat_le (max (last + 1) least) key
 later last least key = elim (cases_lt last key) [
   | inl lt ↦ elim (cases_lt key least) [
-      | inl below ↦ rw (lt-ltb last key lt, lt-leb least key below, lt-leb (max (last + 1) least) key (omega arith)) refl
-      | inr ge ↦ rw (lt-ltb last key lt, le-leb least key ge, le-leb (max (last + 1) least) key (omega arith)) refl
-    ]
+    | inl below ↦ rw (lt-ltb last key lt, lt-leb least key below, lt-leb (max (last + 1) least) key (omega arith)) refl
+    | inr ge ↦ rw (lt-ltb last key lt, le-leb least key ge, le-leb (max (last + 1) least) key (omega arith)) refl
+  ]
   | inr ge ↦ rw (not_lower last key ge, lt-leb (max (last + 1) least) key (omega arith)) refl
 ]
 
@@ -314,7 +314,7 @@ left p last sum b keys (c ∷ cs) side h l = by (c == hyphen) refl (parts_betwee
   where
     by : (t : Bool) → (c == hyphen) ≡ t → (parts : List (List ℕ)) → parts_between hyphen cs ≡ parts →
         ((q : Pressed) (key sum' : ℕ) (b' : Bool) (keys' : List ℕ) → q.hyphen ≡ false → HasPressed q.code q.next key 1 sum' b' → IsLeft keys' key sum' →
-          spelt_from q cs ≡ option_and_then (spelt_left b' cs) (keys_after keys' key (parts_between hyphen cs))) →
+        spelt_from q cs ≡ option_and_then (spelt_left b' cs) (keys_after keys' key (parts_between hyphen cs))) →
         option_and_then (λ q. spelt_from q cs) (if t then divided p else option_map (with_key p c) (next_key_of p.next c)) ≡ option_and_then (spelt_left b (c ∷ cs)) (keys_after keys last (cond t ([] ∷ parts) (onto_first c parts)))
     by true is parts e rec =
         at_hyphen p last sum b keys cs side h l parts e

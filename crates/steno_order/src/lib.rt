@@ -15,10 +15,9 @@ mod keys;
 pub mod laws;
 mod pressed;
 mod reading;
-mod writing;
-
 #[cfg(test)]
 mod tests;
+mod writing;
 
 pub use faults::{OutlineFault, StrokesFault};
 pub use reading::{read_outline, read_stroke, read_strokes};
