@@ -2,10 +2,15 @@ pub mod Ranges
 pub mod Presses
 pub mod Spellings
 pub mod Bits
+pub mod Marks
+pub mod Bars
 pub mod Canonicals
 pub mod Lists
 pub mod NextKeys
 pub mod Codes
+pub mod States
+pub mod RightSide
+pub mod LeftSide
 pub mod Steps
 pub mod Parts
 pub mod Loops
