@@ -1,0 +1,17 @@
+pub mod Ranges
+pub mod Presses
+pub mod Spellings
+pub mod Bits
+pub mod Canonicals
+pub mod Lists
+pub mod NextKeys
+pub mod Codes
+pub mod Steps
+pub mod Parts
+pub mod Loops
+pub mod StrokesRead
+pub mod Masks
+pub mod Writes
+pub mod Needs
+pub mod ListLaws
+pub mod Examples

@@ -1,0 +1,76 @@
+-- What the private functions of the code do: reading one character at a time, and writing stroke by stroke. That reading
+-- so comes to `stroke_of` is proved.
+--     is_unwritten c              no key is written with the character
+--     has_keys c first last       the character's keys are these two, which may be one
+--     next_key_of next c          the first key from `next` on that is written with the character
+--     after p c                   the state after one more character
+--     spelt_from p text           the stroke, if this text goes on from the state to one
+--     readings_from p text        what each part between slashes spells, where the first goes on from the state
+--     readings_left rest          what each part of a text spells, if there is a text left
+--     has_one code keys           the stroke has one of these keys
+--     others_text strokes         the strokes' texts, each after a slash
+use Rattle.std.specs.Prelude.{ℕ, ◌+◌, ◌^◌, List, [], ◌∷◌, ◌++◌, Bool, true, false, ◌&&◌, ◌||◌, ◌==◌, not, nat_lt, nat_le, max, if◌then◌else◌, find, map, Option, Some, None, option_map, option_and_then}
+use Rattle.std.specs.List.{list_all, list_any, range_with_len}
+use Rattle.std.specs.Char.{is_ascii_digit}
+use Rattle.std.specs.Int.Bits.{bit_or}
+use Rattle.steno_order.specs.declared.pressed.Pressed.{Pressed}
+use Rattle.steno_order.specs.Keys.{is_written, has, hyphen, slash}
+use Rattle.steno_order.specs.Canonical.{canonical}
+use Rattle.steno_order.specs.Spelling.{parts_of}
+use Rattle.steno_order.specs.Reading.{stroke_of, readings}
+
+-- no key is written with the character
+abbrev pub is_unwritten : ℕ → Bool
+is_unwritten c = list_all (λ key. not (is_written c key)) (range_with_len 0 23)
+
+-- the keys written with the character are the first and the last, which may be one
+abbrev pub has_keys : ℕ → ℕ → ℕ → Bool
+has_keys c first last = nat_le first last && nat_lt last 23 && list_all (λ key. if is_written c key then key == first || key == last else not (key == first || key == last)) (range_with_len 0 23)
+
+-- the first key from `next` on that is written with the character
+unfoldable pub next_key_of : ℕ → ℕ → Option ℕ
+next_key_of next c = find (λ key. is_written c key && nat_le next key) (range_with_len 0 23)
+
+-- after a hyphen, where none came before it and no key from 13 on
+abbrev pub divided : Pressed → Option Pressed
+divided p = if not p.hyphen && nat_le p.next 13 then Some (record { code = p.code; next = max p.next 11; hyphen = true }) else None
+
+-- after a character that presses this key, and key 0 if it is a digit
+abbrev pub with_key : Pressed → ℕ → ℕ → Pressed
+with_key p c key = record { code = bit_or (bit_or p.code (2 ^ key)) (if is_ascii_digit c then 1 else 0); next = key + 1; hyphen = p.hyphen }
+
+-- after one more character
+abbrev pub after : Pressed → ℕ → Option Pressed
+after p c = if c == hyphen then divided p else option_map (with_key p c) (next_key_of p.next c)
+
+-- the code, if it is that of a stroke
+abbrev pub stroke_with : ℕ → Option ℕ
+stroke_with code = if nat_lt 0 code && nat_lt code (2 ^ 23) then Some code else None
+
+-- the stroke, if this text goes on from the state to one
+abbrev pub spelt_from : Pressed → List ℕ → Option ℕ
+spelt_from p [] = stroke_with p.code
+spelt_from p (c ∷ cs) = option_and_then (λ q. spelt_from q cs) (after p c)
+
+-- what the parts spell, where the first goes on from the state
+abbrev pub each_from : Pressed → List (List ℕ) → List (Option ℕ)
+each_from p [] = []
+each_from p (part ∷ parts) = spelt_from p part ∷ map stroke_of parts
+
+-- what the parts between slashes spell, where the first goes on from the state
+abbrev pub readings_from : Pressed → List ℕ → List (Option ℕ)
+readings_from p text = each_from p (parts_of text)
+
+-- what the parts of the text that is left spell
+abbrev pub readings_left : Option (List ℕ) → List (Option ℕ)
+readings_left None = []
+readings_left (Some text) = readings text
+
+-- the stroke has one of these keys
+unfoldable pub has_one : ℕ → ℕ → Bool
+has_one code keys = list_any (λ key. has keys key && has code key) (range_with_len 0 23)
+
+-- the strokes' texts, each after a slash
+abbrev pub others_text : List ℕ → List ℕ
+others_text [] = []
+others_text (stroke ∷ strokes) = (slash ∷ canonical stroke) ++ others_text strokes
