@@ -1,10 +1,14 @@
--- The first key that a character may press, by the two keys that it is written on.
-use Rattle.std.proofs.Common.{◌≡◌, ℕ, zero, suc, ◌+◌, ◌<◌, ◌≤◌, refl, sym, arith, Bool, true, false, true≢false, inl, inr, ◌∙◌}
-use Rattle.std.specs.Prelude.{◌&&◌, ◌||◌, ◌==◌, nat_lt, nat_le, not, find, Option, Some, None, if◌then◌else◌}
+-- The first key that a character may press, by the set of keys that it is written on.
+use Rattle.std.proofs.Common.{◌≡◌, ℕ, zero, suc, ◌+◌, ◌-◌, ◌*◌, ◌/◌, ◌%◌, ◌^◌, ◌<◌, ◌≤◌, refl, sym, ap, arith, Bool, true, false, true≢false, inl, inr, ◌∙◌}
+use Rattle.std.specs.Prelude.{◌&&◌, ◌==◌, nat_lt, nat_le, not, Some, None, if◌then◌else◌}
 use Rattle.std.specs.List.{list_all, range_with_len}
-use Rattle.std.proofs.lemmas.Bool.{cases_lt, le-leb, lt-leb, leb-true, ltb-true, eq-eqb, ne_eqb}
-use Rattle.steno_order.specs.Keys.{is_written}
-use Rattle.steno_order.specs.Steps.{has_keys, is_unwritten, next_key_of}
+use Rattle.std.specs.Int.{bit_at, trailing_zeros, w32}
+use Rattle.std.proofs.Math.Nat.{div-div-eq-div-mul}
+use Rattle.std.proofs.lemmas.Bool.{cases_lt, le-leb, lt-leb, ltb-true, eqb-true, eq-eqb, ne_eqb}
+use Rattle.std.proofs.lemmas.Nat.{pow-add}
+use Rattle.std.proofs.lemmas.Nat.Bits.{bit_at_above, bit_at-zero, bit_at-trailing_zeros}
+use Rattle.steno_order.specs.Keys.{is_written, has}
+use Rattle.steno_order.specs.Steps.{has_keys, next_key_of}
 use Rattle.steno_order.proofs.Ranges.{both, tested, range_find, range_none}
 
 agree : (w e : Bool) → (if w then e else not e) ≡ true → w ≡ e
@@ -12,74 +16,78 @@ agree true e h = sym h
 agree false true h = absurd (true≢false (sym h))
 agree false false h = refl
 
--- the character is written on these two keys
-pub record KeysOf (c first last : ℕ) : Type 0 where
-  pub ordered : first ≤ last
-  pub below : last < 23
-  pub each : (key : ℕ) → key < 23 → is_written c key ≡ (key == first || key == last)
+-- the keys of the code are those of the character
+pub record KeysOf (c keys : ℕ) : Type 0 where
+  pub below : keys < 2 ^ 23
+  pub each : (key : ℕ) → key < 23 → is_written c key ≡ has keys key
 
-pub has_keys-KeysOf : (c first last : ℕ) → has_keys c first last ≡ true → KeysOf c first last
-has_keys-KeysOf c first last h =
-    let outer = both (nat_le first last && nat_lt last 23) (list_all (λ key. if is_written c key then key == first || key == last else not (key == first || key == last)) (range_with_len 0 23)) h in
-    let bounds = both (nat_le first last) (nat_lt last 23) outer.0 in
+pub has_keys-KeysOf : (c keys : ℕ) → has_keys c keys ≡ true → KeysOf c keys
+has_keys-KeysOf c keys h =
+    let two = both (nat_lt keys (2 ^ 23)) (list_all (λ key. if is_written c key then has keys key else not (has keys key)) (range_with_len 0 23)) h in
     record {
-      ordered = leb-true first last bounds.0;
-      below = ltb-true last 23 bounds.1;
-      each = λ key lt. agree (is_written c key) (key == first || key == last) (tested (λ k. if is_written c k then k == first || k == last else not (k == first || k == last)) 0 23 outer.1 key (omega arith) (omega arith));
+      below = ltb-true keys (2 ^ 23) two.0;
+      each = λ key lt. agree (is_written c key) (has keys key) (tested (λ k. if is_written c k then has keys k else not (has keys k)) 0 23 two.1 key (omega arith) (omega arith));
     }
 
--- a test that fails before the bound, and one that fails at the key
-either_fails : (w b : Bool) → (w ≡ false) → (w && b) ≡ false
-either_fails w b e = rw e refl
+-- a test that fails on its first part, and on its second
+first_fails : (w b : Bool) → w ≡ false → (w && b) ≡ false
+first_fails w b e = rw e refl
 
-not_from : (w b : Bool) → b ≡ false → (w && b) ≡ false
-not_from true b e = e
-not_from false b e = refl
+second_fails : (w b : Bool) → b ≡ false → (w && b) ≡ false
+second_fails true b e = e
+second_fails false b e = refl
 
-no_key : (a b : Bool) → a ≡ false → b ≡ false → (a || b) ≡ false
-no_key a b ea eb = rw (ea, eb) refl
+-- the bits from `next` on
+shifted : (keys next i : ℕ) → bit_at (keys / 2 ^ next) i ≡ bit_at keys (next + i)
+shifted keys next i = ap (λ n. n % 2) (div-div-eq-div-mul keys (2 ^ next) (2 ^ i) ∙ ap (λ n. keys / n) (sym (pow-add 2 next i)))
 
-or_second : (a b : Bool) → b ≡ true → (a || b) ≡ true
-or_second true b e = refl
-or_second false b e = e
+no_bit : (c keys key : ℕ) → KeysOf c keys → key < 23 → bit_at keys key ≡ 0 → is_written c key ≡ false
+no_bit c keys key h lt none = h.each key lt ∙ ne_eqb (bit_at keys key) 1 (λ e. absurd (omega arith))
 
-pub next_first : (c first last next : ℕ) → KeysOf c first last → next ≤ first → next_key_of next c ≡ Some first
+pub next_none : (c keys next : ℕ) → KeysOf c keys → keys / 2 ^ next ≡ 0 → next_key_of next c ≡ None
 unfolding next_key_of
-next_first c first last next h le =
-    let o = h.ordered in
-    let b = h.below in
-    range_find (λ key. is_written c key && nat_le next key) 0 23 first
-    (rw (h.each first (omega arith), eq-eqb first first refl, le-leb next first le) refl)
-    (omega arith)
-    (omega arith)
-    (λ j ge lt. either_fails (is_written c j) (nat_le next j) (h.each j (omega arith) ∙ no_key (j == first) (j == last) (ne_eqb j first (λ e. absurd (omega arith))) (ne_eqb j last (λ e. absurd (omega arith)))))
+next_none c keys next h none = range_none (λ key. is_written c key && nat_le next key) 0 23 (λ j ge lt. elim (cases_lt j next) [
+  | inl low ↦ second_fails (is_written c j) (nat_le next j) (lt-leb next j low)
+  | inr high ↦ (
+      let place : next + (j - next) ≡ j = omega arith in
+      first_fails (is_written c j) (nat_le next j) (no_bit c keys j h (omega arith) (ap (bit_at keys) (sym place) ∙ (sym (shifted keys next (j - next)) ∙ (ap (λ n. bit_at n (j - next)) none ∙ bit_at-zero (j - next))))))
+])
 
-pub next_last : (c first last next : ℕ) → KeysOf c first last → first < next → next ≤ last → next_key_of next c ≡ Some last
+-- the place of the lowest bit from `next` on
+pub record IsLowest (keys next key : ℕ) : Type 0 where
+  pub within : key < 23
+  pub from : next ≤ key
+  pub set : bit_at keys key ≡ 1
+  pub none : (j : ℕ) → next ≤ j → j < key → bit_at keys j ≡ 0
+
+pub next_some : (c keys next key : ℕ) → KeysOf c keys → IsLowest keys next key → next_key_of next c ≡ Some key
 unfolding next_key_of
-next_last c first last next h gt le =
-    let b = h.below in
-    range_find (λ key. is_written c key && nat_le next key) 0 23 last
-    (rw (h.each last b, or_second (last == first) (last == last) (eq-eqb last last refl), le-leb next last le) refl)
+next_some c keys next key h low =
+    let within = low.within in
+    range_find (λ k. is_written c k && nat_le next k) 0 23 key
+    (rw (h.each key within ∙ eq-eqb (bit_at keys key) 1 low.set, le-leb next key low.from) refl)
     (omega arith)
     (omega arith)
     (λ j ge lt. elim (cases_lt j next) [
-      | inl low ↦ not_from (is_written c j) (nat_le next j) (lt-leb next j low)
-      | inr high ↦ either_fails (is_written c j) (nat_le next j) (h.each j (omega arith) ∙ no_key (j == first) (j == last) (ne_eqb j first (λ e. absurd (omega arith))) (ne_eqb j last (λ e. absurd (omega arith))))
+      | inl below ↦ second_fails (is_written c j) (nat_le next j) (lt-leb next j below)
+      | inr above ↦ first_fails (is_written c j) (nat_le next j) (no_bit c keys j h (omega arith) (low.none j above lt))
     ])
 
-pub next_none : (c first last next : ℕ) → KeysOf c first last → last < next → next_key_of next c ≡ None
-unfolding next_key_of
-next_none c first last next h gt =
-    let o = h.ordered in
-    range_none (λ key. is_written c key && nat_le next key) 0 23 (λ j ge lt. elim (cases_lt j next) [
-      | inl low ↦ not_from (is_written c j) (nat_le next j) (lt-leb next j low)
-      | inr high ↦ either_fails (is_written c j) (nat_le next j) (h.each j (omega arith) ∙ no_key (j == first) (j == last) (ne_eqb j first (λ e. absurd (omega arith))) (ne_eqb j last (λ e. absurd (omega arith))))
-    ])
+pub lowest : (keys next : ℕ) → keys < 2 ^ 23 → next ≤ 23 → 0 < keys / 2 ^ next → IsLowest keys next (next + trailing_zeros w32 (keys / 2 ^ next))
+lowest keys next small few pos =
+    let le : keys / 2 ^ next ≤ keys = omega arith in
+    let t = bit_at-trailing_zeros w32 (keys / 2 ^ next) pos (omega arith) in
+    let set = sym (shifted keys next (trailing_zeros w32 (keys / 2 ^ next))) ∙ t.1 in
+    record {
+      within = elim (cases_lt (next + trailing_zeros w32 (keys / 2 ^ next)) 23) [
+        | inl lt ↦ lt
+        | inr ge ↦ (let none = bit_at_above keys 23 (next + trailing_zeros w32 (keys / 2 ^ next)) small ge in absurd (omega (arith, none, set)))
+      ];
+      from = omega arith;
+      set = set;
+      none = λ j ge lt. (let place : next + (j - next) ≡ j = omega arith in ap (bit_at keys) (sym place) ∙ (sym (shifted keys next (j - next)) ∙ t.2 (j - next) (omega arith)));
+    }
 
-not_true : (b : Bool) → not b ≡ true → b ≡ false
-not_true true e = absurd (true≢false (sym e))
-not_true false e = refl
-
-pub next_unwritten : (c next : ℕ) → is_unwritten c ≡ true → next_key_of next c ≡ None
-unfolding next_key_of
-next_unwritten c next h = range_none (λ key. is_written c key && nat_le next key) 0 23 (λ j ge lt. either_fails (is_written c j) (nat_le next j) (not_true (is_written c j) (tested (λ key. not (is_written c key)) 0 23 h j ge lt)))
+pub positive : (n : ℕ) → (n ≡ 0 → ⊥) → 0 < n
+positive zero h = absurd (h refl)
+positive (suc n) h = omega arith

@@ -1,7 +1,6 @@
 -- What the private functions of the code do: reading one character at a time, and writing stroke by stroke. That reading
 -- so comes to `stroke_of` is proved.
---     is_unwritten c              no key is written with the character
---     has_keys c first last       the character's keys are these two, which may be one
+--     has_keys c keys             the keys of the code are those that are written with the character
 --     next_key_of next c          the first key from `next` on that is written with the character
 --     after p c                   the state after one more character
 --     spelt_from p text           the stroke, if this text goes on from the state to one
@@ -19,13 +18,9 @@ use Rattle.steno_order.specs.Canonical.{canonical}
 use Rattle.steno_order.specs.Spelling.{parts_of}
 use Rattle.steno_order.specs.Reading.{stroke_of, readings}
 
--- no key is written with the character
-abbrev pub is_unwritten : ℕ → Bool
-is_unwritten c = list_all (λ key. not (is_written c key)) (range_with_len 0 23)
-
--- the keys written with the character are the first and the last, which may be one
-abbrev pub has_keys : ℕ → ℕ → ℕ → Bool
-has_keys c first last = nat_le first last && nat_lt last 23 && list_all (λ key. if is_written c key then key == first || key == last else not (key == first || key == last)) (range_with_len 0 23)
+-- the keys of the code are those that are written with the character
+abbrev pub has_keys : ℕ → ℕ → Bool
+has_keys c keys = nat_lt keys (2 ^ 23) && list_all (λ key. if is_written c key then has keys key else not (has keys key)) (range_with_len 0 23)
 
 -- the first key from `next` on that is written with the character
 unfoldable pub next_key_of : ℕ → ℕ → Option ℕ

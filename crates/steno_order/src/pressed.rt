@@ -1,6 +1,6 @@
 //! The state between two characters of a stroke's text.
 
-ghost use Rattle.std.specs.Prelude.{◌≡◌, SomeIff};
+ghost use Rattle.std.specs.Prelude.{◌≡◌, ◌≤◌, IfSome, SomeIff};
 ghost use Rattle.steno_rules.specs.Outlines.{IsStroke};
 ghost use Rattle.steno_order.specs.Steps.{after, divided};
 
@@ -28,7 +28,9 @@ impl Pressed {
 
     /// The state after one more character, if it may follow.
     pub(crate) fn press(self, byte: u8) -> Option<Pressed>
-        ensures { result ≡ after self byte }
+        requires { self.next ≤ 23 }
+        ensures after { result ≡ after self byte }
+        ensures next { IfSome result (λ pressed. pressed.next ≤ 23) }
     {
         if byte == b'-' {
             return self.divide();
@@ -43,7 +45,8 @@ impl Pressed {
 
     /// The state after a hyphen: only keys of the right side and the vowels E and U follow.
     fn divide(self) -> Option<Pressed>
-        ensures { result ≡ divided self }
+        ensures divided { result ≡ divided self }
+        ensures next { IfSome result (λ pressed. pressed.next ≤ 23) }
     {
         if self.hyphen || self.next > 13 {
             return None;

@@ -145,11 +145,14 @@ fn refusals(rt: HostRuntime) -> Result<(), Fail> {
         long.push_str("S/")?;
     }
     long.push_str("S")?;
+    assert_eq!(rt; long.len(), 127);
     assert_eq!(rt; read_outline(rt.alloc(), &long)?.strokes().len(), 64);
     long.push_str("/S")?;
+    assert_eq!(rt; long.len(), 129);
     assert_eq!(rt; read_strokes(rt.alloc(), &long)?.len(), 65);
     assert_eq!(rt; read_outline(rt.alloc(), &long).err(), Some(OutlineFault::TooLong { parts: 65 }));
     long.push_str("/UE")?;
+    assert_eq!(rt; long.len(), 132);
     assert_eq!(rt; read_outline(rt.alloc(), &long).err(), Some(OutlineFault::Unreadable { part: 65 }));
     Ok(())
 }
