@@ -1,0 +1,5 @@
+pub mod Reading
+pub mod Dictionaries
+pub mod Outcomes
+pub mod Faults
+pub mod Generated
