@@ -1,8 +1,8 @@
 -- The dictionary of a file, by its keys with their texts in order of bytes.
 --     dictionary_of pairs     its entries in outline order, the skipped keys, and how many keys are folded
 --     IsDictionary d          what every dictionary is
-use Rattle.std.specs.Prelude.{ℕ, ◌+◌, ◌-◌, ◌<◌, ◌≤◌, ◌^◌, List, [], Bool, false, All, map, filter, filter_map, fold, length, nat_eq, is_none, Option, None, Some, unwrap_or}
-use Rattle.std.specs.List.{last_or}
+use Rattle.std.specs.Prelude.{ℕ, ◌+◌, ◌-◌, ◌<◌, ◌≤◌, ◌^◌, List, [], Bool, All, map, filter, filter_map, find, fold, length, reverse, nat_eq, is_none, option_map}
+use Rattle.std.specs.Option.{option_map_or}
 use Rattle.std.specs.Cmp.Lexicographic.{pointwise}
 use Rattle.steno_rules.specs.Nodes.{insert_new}
 use Rattle.steno_rules.specs.Outlines.{AreEntries}
@@ -28,30 +28,29 @@ outlines_of entries = map (λ e. e.outline) entries
 abbrev pub in_order : List (List ℕ) → List (List ℕ)
 in_order outlines = fold insert_new [] outlines
 
--- what each readable key spells
-abbrev pub spelt : List Keyed → List (List ℕ)
-spelt pairs = filter_map (λ p. strokes_of p.key) pairs
+-- what each readable key spells, with its text
+abbrev pub spelt : List Keyed → List Entry
+spelt pairs = filter_map (λ p. option_map (λ strokes. record { outline = strokes; text = p.text }) (strokes_of p.key)) pairs
 
--- these strokes are there and are the outline
-abbrev pub are : Option (List ℕ) → List ℕ → Bool
-are None outline = false
-are (Some strokes) outline = pointwise nat_eq strokes outline
+-- the entry has this outline
+abbrev pub has_outline : List ℕ → Entry → Bool
+has_outline outline e = pointwise nat_eq e.outline outline
 
--- the text of the last key that spells the outline, which is the greatest
-abbrev pub standing : List Keyed → List ℕ → List ℕ
-standing pairs outline = unwrap_or (last_or None (map (λ p. p.text) (filter (λ p. are (strokes_of p.key) outline) pairs))) []
+-- the text of the last entry that has the outline
+abbrev pub standing : List Entry → List ℕ → List ℕ
+standing entries outline = option_map_or (λ e. e.text) (find (has_outline outline) (reverse entries)) []
 
--- each outline that a key spells, with the text that stands for it
-abbrev pub entries_of : List Keyed → List Entry
-entries_of pairs = map (λ outline. record { outline = outline; text = standing pairs outline }) (in_order (spelt pairs))
+-- each outline of the entries once, in outline order, with the text that stands for it
+abbrev pub last_of_each : List Entry → List Entry
+last_of_each entries = map (λ outline. record { outline = outline; text = standing entries outline }) (in_order (outlines_of entries))
 
 -- the keys that have a part which spells no stroke
 abbrev pub skipped_of : List Keyed → List (List ℕ)
 skipped_of pairs = map (λ p. p.key) (filter (λ p. is_none (strokes_of p.key)) pairs)
 
--- readable keys beyond one for each outline are folded
+-- of the keys that spell one outline the last stands, which is the greatest, and the others are folded
 abbrev pub dictionary_of : List Keyed → DictionaryView
-dictionary_of pairs = record { entries = entries_of pairs; skipped = skipped_of pairs; folded = length (spelt pairs) - length (entries_of pairs) }
+dictionary_of pairs = record { entries = last_of_each (spelt pairs); skipped = skipped_of pairs; folded = length (spelt pairs) - length (last_of_each (spelt pairs)) }
 
 -- the entries are in strictly rising order, none of them empty or longer than 64 strokes, and all numbers are below 2^32
 pub record IsDictionary (d : DictionaryView) : Type 0 where

@@ -2,7 +2,7 @@
 
 ghost use Rattle.std.specs.Prelude.{◌≡◌, ◌<◌, ◌≤◌, ◌+◌, ◌^◌, length, All};
 ghost use Rattle.steno_rules.specs.Outlines.{AreEntries};
-ghost use Rattle.dict_json.specs.Dictionaries.{outlines_of};
+ghost use Rattle.dict_json.specs.Dictionaries.{IsDictionary, outlines_of};
 
 use crate::texts::Text;
 use std::marker::Model;
@@ -26,8 +26,10 @@ impl Model for DictEntry {
 impl DictEntry {
     /// The entry of an outline and its translation.
     pub(crate) fn new(outline: Outline, text: Text) -> DictEntry
-        ensures { result ≡ record { outline = outline; text = text } }
+        ensures entry { result ≡ record { outline = outline; text = text } }
+        ensures short { length outline ≤ 64 }
     {
+        outline.strokes();
         DictEntry { outline, text }
     }
 
@@ -77,6 +79,18 @@ impl Model for Dictionary {
 }
 
 impl Dictionary {
+    /// The dictionary of these entries, skipped keys and number of folded keys.
+    pub(crate) fn new(entries: Vec<DictEntry>, skipped: Vec<Text>, folded: u64) -> Dictionary
+        requires { IsDictionary (record { entries = entries.items; skipped = skipped.items; folded = folded }) }
+        ensures { result ≡ record { entries = entries.items; skipped = skipped.items; folded = folded } }
+    {
+        Dictionary {
+            entries,
+            skipped,
+            folded,
+        }
+    }
+
     /// The entries, in strictly rising order of their outlines.
     pub fn entries(&self) -> &[DictEntry]
         ensures entries { result.now ≡ self.now.entries }

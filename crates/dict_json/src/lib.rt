@@ -8,6 +8,8 @@
 mod dictionaries;
 mod faults;
 mod generator;
+mod keys;
+mod order;
 mod reading;
 mod texts;
 
