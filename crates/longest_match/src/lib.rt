@@ -1,0 +1,20 @@
+//! Leftmost longest match, the slow plain way.
+//!
+//! Plover prefers the longest outline that its dictionaries have. Here a list of strokes is cut into pieces by that rule
+//! alone: [`segment`] goes over all entries for each piece, so its cost is the strokes of the list times those of the entries.
+//! It says what the quick translator has to answer, and it tells of a list of words whether they show a swallowed boundary
+//! ([`shows`]).
+//!
+//! ```text
+//! entries S, T, K, S/T/K:  S/T/K is one piece, S/T/S/T/K are the pieces S, T and S/T/K
+//! ```
+#![tactic(auto)]
+
+mod pieces;
+mod showing;
+
+pub use pieces::{Piece, longest, segment};
+pub use showing::shows;
+
+#[cfg(test)]
+mod tests;
