@@ -11,9 +11,7 @@ use Rattle.std.proofs.lemmas.List.Sorted.{ranks_by, Contains-permutation, IsPerm
 use Rattle.std.specs.Option.{option_map_or}
 use Rattle.steno_rules.specs.Outlines.{outline_cmp, AreRising}
 use Rattle.steno_rules.proofs.Lists.{none_in_nil, in_cons, in_first, in_later, in_map, in_map_of}
-use Rattle.steno_rules.proofs.NodeLemmas.{Rises, AreRising-Rises}
-use Rattle.steno_rules.proofs.Numbers.{not_below_self}
-use Rattle.steno_rules.proofs.WordSetLemmas.{rising_same}
+use Rattle.steno_rules.proofs.Rising.{Rises, pairs_of_rises, rising_same}
 use Rattle.dict_json.specs.Dictionaries.{Entry, outlines_of, in_order, has_outline, standing, last_of_each}
 use Rattle.dict_json.proofs.InOrder.{in_order-rising, in_order-Contains}
 
@@ -83,8 +81,12 @@ find-dedup : (outline : List ℕ) (xs : List Entry) → find (has_outline outlin
 find-dedup outline [] = refl
 find-dedup outline (x ∷ xs) = find-dedup_from outline x xs
 
+-- one outline comes before the other
+abbrev Before : List ℕ → List ℕ → Type 0
+Before a b = outline_cmp a b ≡ Less
+
 -- rising entries by their outlines
-rises_of : (xs : List Entry) → IsStrictlySortedBy (on (λ (e : Entry). e.outline) outline_cmp) xs → Rises (outlines_of xs)
+rises_of : (xs : List Entry) → IsStrictlySortedBy (on (λ (e : Entry). e.outline) outline_cmp) xs → Rises Before (outlines_of xs)
 unfolding Rises IsStrictlySortedBy
 rises_of [] h = tt
 rises_of (x ∷ xs) h = (above x xs h.0, rises_of xs h.1)
@@ -102,7 +104,7 @@ later_is_other x (y ∷ ys) z all h = elim (in_cons y ys z h) [
 ]
 
 -- so each rising entry is the one of its outline
-find_own : (xs : List Entry) (e : Entry) → Rises (outlines_of xs) → Contains xs e → find (has_outline e.outline) xs ≡ Some e
+find_own : (xs : List Entry) (e : Entry) → Rises Before (outlines_of xs) → Contains xs e → find (has_outline e.outline) xs ≡ Some e
 unfolding Rises
 find_own [] e h has = absurd (none_in_nil e has)
 find_own (x ∷ xs) e h has = elim (in_cons x xs e has) [
@@ -116,7 +118,7 @@ map_back f (x ∷ xs) same = ap₂ (λ y l. y ∷ l) (same x (in_first x xs)) (m
 
 -- what is left are the last ones of each outline
 module _ (entries turned sorted : List Entry) (is : turned ≡ reverse entries) (moved : IsPermutation turned sorted) (up : IsSortedBy is_before sorted) (stable : IsStableBy is_before turned sorted) where
-  rises : Rises (outlines_of (dedup is_same sorted))
+  rises : Rises Before (outlines_of (dedup is_same sorted))
   rises = rises_of (dedup is_same sorted) (IsStrictlySortedBy-dedup (on_texts (λ (e : Entry). e.outline)) (λ a b. texts_ties a.outline b.outline) sorted up)
 
   elements : IsPermutation entries sorted
@@ -135,7 +137,7 @@ module _ (entries turned sorted : List Entry) (is : turned ≡ reverse entries) 
       subst (Contains (outlines_of (dedup is_same sorted))) (sym ((bytes_decides found.0.outline kept.1.outline).0 kept.4) ∙ found.2) (in_map_of (λ (e : Entry). e.outline) (dedup is_same sorted) kept.1 (kept.0, kept.2, kept.3))
 
   outlines : in_order (outlines_of entries) ≡ outlines_of (dedup is_same sorted)
-  outlines = rising_same _ _ (in_order-rising (outlines_of entries)) (AreRising-Rises _ rises) (λ z. (λ h. of_entries z ((in_order-Contains (outlines_of entries) z).0 h), λ h. (in_order-Contains (outlines_of entries) z).1 (from_entries z h)))
+  outlines = rising_same outline_cmp nat_list_cmp_total _ _ (in_order-rising (outlines_of entries)) (pairs_of_rises Before _ rises) (λ z. (λ h. of_entries z ((in_order-Contains (outlines_of entries) z).0 h), λ h. (in_order-Contains (outlines_of entries) z).1 (from_entries z h)))
 
   stands : (e : Entry) → Contains (dedup is_same sorted) e → record { outline = e.outline; text = standing entries e.outline } ≡ e
   stands e has =

@@ -5,7 +5,7 @@ use Rattle.std.proofs.lemmas.List.{length-map, get_or-map}
 use Rattle.std.proofs.lemmas.List.Elements.{Contains-get_or, All-from_recursion, All-contains, All-map}
 use Rattle.std.proofs.lemmas.List.Splits.{length-slice_split}
 use Rattle.std.proofs.lemmas.Bool.{ltb-false, ltb-true}
-use Rattle.steno_rules.specs.Nodes.{insert_new, by_order}
+use Rattle.steno_rules.specs.Nodes.{insert_new, insert_by, by_order}
 use Rattle.steno_rules.specs.Outlines.{AreRising, AreEntries, outline_cmp}
 use Rattle.steno_order.specs.Keys.{slash}
 use Rattle.steno_order.specs.Reading.{strokes_of}
@@ -81,26 +81,26 @@ and_true : (b : Bool) → b && true ≡ false → b ≡ false
 and_true true e = e
 and_true false e = refl
 
--- what an entry's outline is
-abbrev IsOutline : List ℕ → Type 0
-IsOutline outline = (0 < length outline) × (length outline ≤ 64)
+-- what the length of an entry's outline is
+abbrev IsInBounds : List ℕ → Type 0
+IsInBounds outline = (0 < length outline) × (length outline ≤ 64)
 
 -- each key that isn't too long spells an outline, if it spells strokes
-spelt_outlines : (pairs : List Keyed) → find is_too_long pairs ≡ None → AllByRecursion IsOutline (outlines_of (spelt pairs))
+spelt_outlines : (pairs : List Keyed) → find is_too_long pairs ≡ None → AllByRecursion IsInBounds (outlines_of (spelt pairs))
 spelt_outlines [] e = tt
 spelt_outlines (p ∷ ps) e = let f = fails is_too_long p ps e in by (strokes_of p.key) refl f.0 (spelt_outlines ps f.1)
   where
-    by : (o : Option (List ℕ)) → strokes_of p.key ≡ o → nat_lt 64 (length (parts_of p.key)) && is_some (strokes_of p.key) ≡ false → AllByRecursion IsOutline (outlines_of (spelt ps)) →
-        AllByRecursion IsOutline (outlines_of (cons_option (option_map (λ strokes. record { outline = strokes; text = p.text }) o) (spelt ps)))
+    by : (o : Option (List ℕ)) → strokes_of p.key ≡ o → nat_lt 64 (length (parts_of p.key)) && is_some (strokes_of p.key) ≡ false → AllByRecursion IsInBounds (outlines_of (spelt ps)) →
+        AllByRecursion IsInBounds (outlines_of (cons_option (option_map (λ strokes. record { outline = strokes; text = p.text }) o) (spelt ps)))
     by None spells short rest = rest
     by (Some strokes) spells short rest =
         let count = strokes_of-length p.key strokes spells in
         let few = ltb-false 64 (length (parts_of p.key)) (and_true _ (ap (λ o. nat_lt 64 (length (parts_of p.key)) && is_some o) (sym spells) ∙ short)) in
         ((omega (arith, count, length-slice_split (λ c. c == slash) p.key), omega (arith, count, few)), rest)
 
-in_order_outlines : (entries : List Entry) → AllByRecursion IsOutline (outlines_of entries) → All IsOutline (in_order (outlines_of entries))
+in_order_outlines : (entries : List Entry) → AllByRecursion IsInBounds (outlines_of entries) → All IsInBounds (in_order (outlines_of entries))
 in_order_outlines entries all k d below =
-    All-contains IsOutline (outlines_of entries) _ (All-from_recursion IsOutline (outlines_of entries) all) ((in_order-Contains (outlines_of entries) _).0 (Contains-get_or (in_order (outlines_of entries)) k d below))
+    All-contains IsInBounds (outlines_of entries) _ (All-from_recursion IsInBounds (outlines_of entries) all) ((in_order-Contains (outlines_of entries) _).0 (Contains-get_or (in_order (outlines_of entries)) k d below))
 
 all_back : (P : List ℕ → Type 0) (es : List Entry) → All P (outlines_of es) → All (λ e. P e.outline) es
 all_back P es all k d below = subst P (get_or-map (λ (e : Entry). e.outline) es k d d.outline below) (all k d.outline (let same : length (outlines_of es) ≡ length es = length-map es _ in omega (arith, same)))
@@ -108,10 +108,10 @@ all_back P es all k d below = subst P (get_or-map (λ (e : Entry). e.outline) es
 dictionary-IsDictionary : (pairs : List Keyed) → find is_too_long pairs ≡ None → length pairs < 2 ^ 32 → IsDictionary (dictionary_of pairs)
 dictionary-IsDictionary pairs short few =
     let es = spelt pairs in
-    let all = subst (All IsOutline) (sym (last_of_each-outlines es)) (in_order_outlines es (spelt_outlines pairs short)) in
+    let all = subst (All IsInBounds) (sym (last_of_each-outlines es)) (in_order_outlines es (spelt_outlines pairs short)) in
     record {
       are_entries = record { rising = subst AreRising (sym (last_of_each-outlines es)) (in_order-rising (outlines_of es)); not_empty = λ k d below. (all k d below).0 };
-      are_short = λ k d below. (all_back IsOutline (last_of_each es) all k d below).1;
+      are_short = λ k d below. (all_back IsInBounds (last_of_each es) all k d below).1;
       few_entries = omega (arith, last_of_each-length es, counted pairs);
       few_keys = omega (arith, counted pairs);
     }
