@@ -11,6 +11,8 @@ mod generator;
 mod keys;
 mod order;
 mod reading;
+#[cfg(test)]
+mod tests;
 mod texts;
 
 pub use dictionaries::{DictEntry, Dictionary};
