@@ -7,7 +7,7 @@ use Rattle.steno_rules.proofs.Rising.{Rises, pairs_of_rises, fold_rises, in_fold
 use Rattle.dict_json.specs.Dictionaries.{in_order}
 
 -- what compares as equal is one outline
-same_of_equal : (x y : List ℕ) → outline_cmp x y ≡ Equal → x ≡ y
+pub same_of_equal : (x y : List ℕ) → outline_cmp x y ≡ Equal → x ≡ y
 same_of_equal x y h = (bytes_decides x y).0 (texts_ties x y ∙ ap is_eq h)
 
 pub in_order-rising : (xs : List (List ℕ)) → AreRising (in_order xs)

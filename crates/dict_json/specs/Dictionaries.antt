@@ -1,7 +1,8 @@
 -- The dictionary of a file, by its keys with their texts in order of bytes.
 --     dictionary_of pairs     its entries in outline order, the skipped keys, and how many keys are folded
 --     IsDictionary d          what every dictionary is
-use Rattle.std.specs.Prelude.{ℕ, ◌+◌, ◌-◌, ◌<◌, ◌≤◌, ◌^◌, List, [], Bool, All, map, filter, filter_map, find, fold, length, reverse, nat_eq, is_none, option_map}
+--     IsWhole d               each key made an entry of its own
+use Rattle.std.specs.Prelude.{ℕ, ◌+◌, ◌-◌, ◌<◌, ◌≤◌, ◌≡◌, ◌^◌, List, [], Bool, All, map, filter, filter_map, find, fold, length, reverse, nat_eq, is_none, option_map}
 use Rattle.std.specs.Option.{option_map_or}
 use Rattle.std.specs.Cmp.Lexicographic.{pointwise}
 use Rattle.steno_rules.specs.Nodes.{insert_new}
@@ -58,3 +59,8 @@ pub record IsDictionary (d : DictionaryView) : Type 0 where
   pub are_short : All (λ e. length e.outline ≤ 64) d.entries
   pub few_entries : length d.entries < 2 ^ 32
   pub few_keys : d.folded + length d.skipped < 2 ^ 32
+
+-- no key was skipped, and none folded
+pub record IsWhole (d : DictionaryView) : Type 0 where
+  pub none_skipped : d.skipped ≡ []
+  pub none_folded : d.folded ≡ 0

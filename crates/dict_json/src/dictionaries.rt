@@ -29,6 +29,7 @@ impl DictEntry {
         ensures entry { result ≡ record { outline = outline; text = text } }
         ensures short { length outline ≤ 64 }
     {
+        // An outline says that it is short where it gives its strokes.
         outline.strokes();
         DictEntry { outline, text }
     }

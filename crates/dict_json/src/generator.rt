@@ -1,8 +1,10 @@
 //! Dictionaries that are made of two numbers, as large inputs that anybody can make again.
 
-ghost use Rattle.std.specs.Prelude.{◌≡◌, ◌<◌, ◌≤◌, ◌+◌, ◌%◌, ◌∷◌, ◌++◌, [], codes, decimal, flat_map, map, nat_lt, slice_index_or, length, string_bytes, if◌then◌else◌, IfOk, OnOk};
+ghost use Rattle.std.specs.Prelude.{◌≡◌, ◌<◌, ◌≤◌, ◌+◌, ◌%◌, ◌^◌, ◌∷◌, ◌++◌, [], codes, decimal, flat_map, map, nat_lt, slice_index_or, length, string_bytes, if◌then◌else◌, IfOk, OnOk};
 ghost use Rattle.steno_order.specs.Keys.{slash};
 ghost use Rattle.text_rules.specs.Quoted.{escaped, quoted};
+ghost use Rattle.dict_json.specs.Dictionaries.{DictionaryView, IsWhole};
+ghost use Rattle.dict_json.specs.Outcomes.{dictionary, dictionary_outcome};
 ghost use Rattle.dict_json.specs.Generated.{after_draws, drawn, generated_text, key_text, members_text, stroke_number, stroke_text};
 
 use std::alloc::{AllocError, Global};
@@ -140,21 +142,31 @@ fn write_member(members: &mut String, key: &str, number: u32) -> Result<(), Allo
     write!(members, "\"{key}\": \"w{number}\"")
 }
 
-/// The bytes of the dictionary that is made of a start and a number of entries.
-///
-/// An entry whose key was already written is left out. The cost is linear in the count.
-pub fn generated(alloc: Global, start: u64, count: u32) -> Result<Vec<u8>, AllocError>
-    requires { count ≤ 100000 }
-    ensures { IfOk result (λ bytes. bytes.items ≡ generated_text start count) }
+/// The text of the dictionary: the members between lines of braces.
+fn object(alloc: Global, start: u64, count: u32) -> Result<String, AllocError>
+    ensures { IfOk result (λ text. string_bytes text ≡ generated_text start count) }
 {
     let mut text = String::new(alloc);
     if count == 0 {
         text.push_str("{}\n")?;
-    } else {
-        let members = members(alloc, start, count)?;
-        text.push_str("{\n")?;
-        text.push_str(members.as_str())?;
-        text.push_str("\n}\n")?;
+        return Ok(text);
     }
-    Ok(text.into_bytes())
+    let members = members(alloc, start, count)?;
+    text.push_str("{\n")?;
+    text.push_str(members.as_str())?;
+    text.push_str("\n}\n")?;
+    Ok(text)
+}
+
+/// The bytes of the dictionary that is made of a start and a number of entries.
+///
+/// An entry whose key was already written is left out, so the bytes read as a dictionary without skipped or folded keys.
+/// The cost is linear in the count.
+pub fn generated(alloc: Global, start: u64, count: u32) -> Result<Vec<u8>, AllocError>
+    requires { count ≤ 100000 }
+    ensures bytes { IfOk result (λ bytes. bytes.items ≡ generated_text start count) }
+    ensures few { IfOk result (λ bytes. length bytes.items < 2 ^ 32) }
+    ensures reads { IfOk result (λ bytes. (d : DictionaryView) × (dictionary_outcome bytes.items ≡ dictionary d) × IsWhole d) }
+{
+    Ok(object(alloc, start, count)?.into_bytes())
 }

@@ -1,14 +1,15 @@
 use Rattle.std.proofs.Common.{◌≡◌, ◌++◌, [], subst, sym, ap, ◌∙◌, cond, true, codes, decimal, string_bytes, bytes_eq, nat_lt, if◌then◌else◌}
 use Rattle.std.specs.HashSet.{contains_text}
 use Rattle.std.proofs.lemmas.Map.Text.{hash_set_updates_text}
-use Rattle.text_rules.specs.Quoted.{quoted}
+
 use Rattle.dict_json.specs.Generated.{drawn, key_of}
 use Rattle.dict_json.proofs.PlainTexts.{IsPlain, key_plain}
+use Rattle.text_rules.specs.Quoted.{escaped, quoted}
 use Rattle.dict_json.proofs.Writing.{key_here, writing_new, writing_known, next_entry}
 use Rattle.dict_json.proofs.generator.members.Goals as goal
 
 pub push_member-requires : goal.push_member-requires
-push_member-requires c = subst IsPlain (sym (c.as_str-in-loop-i.ensures.value ∙ c.in_ok-key.ensures.key)) (key_plain (drawn c.loop-i.draws))
+push_member-requires c = subst (IsPlain escaped) (sym (c.as_str-in-loop-i.ensures.value ∙ c.in_ok-key.ensures.key)) (key_plain (drawn c.loop-i.draws))
 
 pub loop-i-preserved : goal.loop-i-preserved
 loop-i-preserved c =
