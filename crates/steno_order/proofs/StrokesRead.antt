@@ -1,6 +1,11 @@
 -- The strokes read so far, with what is left of the text.
+<<<<<<< HEAD
 use Rattle.std.proofs.Common.{◌≡◌, ℕ, ◌+◌, ◌<◌, ◌≤◌, List, [], ◌∷◌, ◌++◌, length, take, set, refl, sym, ap, arith, ◌∙◌, append-nil, append_assoc}
 use Rattle.std.specs.Prelude.{IfSome, map, position, Option, Some, None, option_map}
+=======
+use Rattle.std.proofs.Common.{◌≡◌, ℕ, zero, suc, ◌+◌, ◌<◌, ◌≤◌, List, [], ◌∷◌, ◌++◌, length, take, set, refl, sym, ap, subst, arith, ◌∙◌, append-nil, append_assoc}
+use Rattle.std.specs.Prelude.{IfSome, map, nat_lt, position, Option, Some, None, option_map, if◌then◌else◌}
+>>>>>>> 85ed0342d5a7f135e54f2265114172efc793b671
 use Rattle.std.specs.Borrow.{Bor}
 use Rattle.std.specs.Option.{is_none}
 use Rattle.std.specs.List.{position_or_len}
@@ -55,6 +60,12 @@ pub record IsHeld (text places : List ℕ) (parts : ℕ) (rest : Option (List �
   pub count : length strokes ≡ parts
   pub held : parts ≤ 64 → take parts places ≡ strokes
 
+<<<<<<< HEAD
+=======
+pub none_held : (text places : List ℕ) → length places ≡ 64 → IsHeld text places 0 (Some text)
+none_held text places size = record { strokes = []; size = size; read = none_read text; count = refl; held = λ le. refl }
+
+>>>>>>> 85ed0342d5a7f135e54f2265114172efc793b671
 pub one_held : (text places bytes : List ℕ) (parts stroke : ℕ) (rest : Option (List ℕ)) → IsHeld text places parts (Some bytes) → readings bytes ≡ Some stroke ∷ readings_left rest → room rest ≤ length bytes → IsHeld text (set places parts stroke) (parts + 1) rest
 one_held text places bytes parts stroke rest h first less =
     let count = h.count in

@@ -1,0 +1,21 @@
+-- Outlines in order, each once: they rise, and are the same outlines.
+use Rattle.std.proofs.Common.{ℕ, ◌≡◌, List, [], Contains, ◌↔◌, inl, inr, sym, ap, ◌∙◌, is_eq, Ordering, Equal, Less}
+use Rattle.std.specs.Cmp.Lexicographic.{bytes_decides, nat_list_cmp_total, texts_ties}
+use Rattle.steno_rules.specs.Outlines.{AreRising, outline_cmp}
+use Rattle.steno_rules.proofs.Lists.{none_in_nil}
+use Rattle.steno_rules.proofs.Rising.{Rises, pairs_of_rises, fold_rises, in_fold, fold_there}
+use Rattle.dict_json.specs.Dictionaries.{in_order}
+
+-- what compares as equal is one outline
+pub same_of_equal : (x y : List ℕ) → outline_cmp x y ≡ Equal → x ≡ y
+same_of_equal x y h = (bytes_decides x y).0 (texts_ties x y ∙ ap is_eq h)
+
+pub in_order-rising : (xs : List (List ℕ)) → AreRising (in_order xs)
+unfolding Rises
+in_order-rising xs = pairs_of_rises (λ a b. outline_cmp a b ≡ Less) (in_order xs) (fold_rises outline_cmp nat_list_cmp_total [] xs tt)
+
+pub in_order-Contains : (xs : List (List ℕ)) (z : List ℕ) → Contains (in_order xs) z ↔ Contains xs z
+in_order-Contains xs z = (
+  λ h. elim (in_fold outline_cmp nat_list_cmp_total [] xs z h) [ inl none ↦ absurd (none_in_nil z none) | inr there ↦ there ],
+  fold_there outline_cmp nat_list_cmp_total same_of_equal [] xs z,
+)

@@ -1,0 +1,8 @@
+use Rattle.std.specs.Prelude.{string_bytes}
+use Rattle.serde_json.specs.View.{members_view}
+use Rattle.dict_json.specs.Reading.{members_of}
+use Rattle.dict_json.proofs.Members.{IsWalking}
+use Rattle.dict_json.proofs.reading.walk.Given as goal
+
+abbrev pub invariant-loop-key : goal.invariant-loop-key
+invariant-loop-key l = IsWalking (members_of (members_view l.fn.map.entries)) (members_of (members_view l.key-iterator)) l.keys

@@ -1,0 +1,6 @@
+pub mod Reading
+pub mod Dictionaries
+pub mod Outcomes
+pub mod Faults
+pub mod Walks
+pub mod Generated

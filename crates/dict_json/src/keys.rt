@@ -1,0 +1,87 @@
+//! The keys of a file, collected one by one in order of their bytes.
+
+ghost use Rattle.std.specs.Prelude.{◌≡◌, ◌<◌, ◌≤◌, ◌∷◌, ◌++◌, ◌^◌, [], List, length, string_bytes, OnOk, Some};
+ghost use Rattle.std.specs.Option.{option_or};
+ghost use Rattle.dict_json.specs.Reading.{Keyed};
+ghost use Rattle.dict_json.specs.Walks.{walked};
+
+use crate::dictionaries::DictEntry;
+use crate::texts::Text;
+use std::alloc::{AllocError, Global};
+use std::marker::Model;
+use steno_order::{read_outline, OutlineFault};
+use stroke::Outline;
+
+/// What the keys so far come to.
+#[derive(Drop)]
+pub(crate) struct Keys {
+    /// The entries of the readable keys, in order of the keys.
+    pub(crate) entries: Vec<DictEntry>,
+    /// The keys that have an unreadable part.
+    pub(crate) skipped: Vec<Text>,
+    /// The first key that is too long, with its number of parts.
+    pub(crate) too_long: Option<(Text, u64)>,
+}
+
+impl Model for Keys {
+    ghost use Rattle.dict_json.specs.Walks.{KeysView};
+
+    ghost Value = { KeysView };
+
+    ghost view = { λ k. record { entries = k.entries.items; skipped = k.skipped.items; too_long = k.too_long } };
+}
+
+impl Keys {
+    /// No keys.
+    pub(crate) fn new(alloc: Global) -> Keys
+        ensures { result ≡ walked [] }
+    {
+        Keys {
+            entries: Vec::new(alloc),
+            skipped: Vec::new(alloc),
+            too_long: None,
+        }
+    }
+
+    /// Adds a key with its text, both of which are moved.
+    pub(crate) fn add(&mut self, alloc: Global, key: String, text: String) -> Result<(), AllocError>
+        requires { length (string_bytes key) < 2 ^ 32 }
+        ensures { OnOk result ((pairs : List Keyed) → self.old ≡ walked pairs → self.new ≡ walked (pairs ++ record { key = string_bytes key; text = string_bytes text } ∷ [])) }
+    {
+        match read_outline(alloc, key.as_str()) {
+            Ok(outline) => self.add_entry(outline, text),
+            Err(OutlineFault::Unreadable { .. }) => self.add_skipped(key),
+            Err(OutlineFault::TooLong { parts }) => {
+                self.add_too_long(key, parts);
+                Ok(())
+            }
+            Err(OutlineFault::Memory) => Err(AllocError),
+        }
+    }
+
+    /// Adds the entry of a readable key.
+    fn add_entry(&mut self, outline: Outline, text: String) -> Result<(), AllocError>
+        ensures entry { OnOk result (self.new ≡ record { entries = self.old.entries ++ record { outline = outline; text = string_bytes text } ∷ []; skipped = self.old.skipped; too_long = self.old.too_long }) }
+        ensures short { length outline ≤ 64 }
+    {
+        self.entries.push(DictEntry::new(outline, Text::new(text)))?;
+        Ok(())
+    }
+
+    /// Adds a key that has an unreadable part.
+    fn add_skipped(&mut self, key: String) -> Result<(), AllocError>
+        ensures { OnOk result (self.new ≡ record { entries = self.old.entries; skipped = self.old.skipped ++ string_bytes key ∷ []; too_long = self.old.too_long }) }
+    {
+        self.skipped.push(Text::new(key))?;
+        Ok(())
+    }
+
+    /// Notes a key that is too long, if it is the first.
+    fn add_too_long(&mut self, key: String, parts: u64)
+        ensures { self.new ≡ record { entries = self.old.entries; skipped = self.old.skipped; too_long = option_or self.old.too_long (Some (string_bytes key, parts)) } }
+    {
+        if self.too_long.is_none() {
+            self.too_long = Some((Text::new(key), parts));
+        }
+    }
+}

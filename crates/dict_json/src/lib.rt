@@ -1,0 +1,22 @@
+//! Dictionaries of files: Plover's JSON objects of outlines and texts, read from their bytes, and a generator of such files.
+//!
+//! [`read_dictionary`] gives the entries of a file, the keys that it skips and the number of keys that it folds, or the first
+//! cause of a refusal. JSON is read by `serde_json`; what its value comes to is `specs/Outcomes.antt`. [`generated`] makes the
+//! bytes of a dictionary from two numbers.
+#![tactic(auto)]
+
+mod dictionaries;
+mod faults;
+mod generator;
+mod keys;
+mod order;
+mod reading;
+#[cfg(test)]
+mod tests;
+mod texts;
+
+pub use dictionaries::{DictEntry, Dictionary};
+pub use faults::DictFault;
+pub use generator::generated;
+pub use reading::read_dictionary;
+pub use texts::Text;

@@ -1,0 +1,88 @@
+//! Reading a dictionary from the bytes of its file.
+
+ghost use Rattle.std.specs.Prelude.{◌≡◌, ◌<◌, ◌^◌, All, None, Some, length, filter_map, find, is_none, IfOk, IfErr};
+ghost use Rattle.serde_json.specs.View.{view, members_view};
+ghost use Rattle.dict_json.specs.Reading.{keyed, members_of, reading};
+ghost use Rattle.dict_json.specs.Outcomes.{dictionary, dictionary_outcome, object_outcome, value_outcome};
+ghost use Rattle.dict_json.specs.Faults.{IsCauseOf};
+ghost use Rattle.dict_json.specs.Walks.{walked};
+
+use crate::dictionaries::Dictionary;
+use crate::faults::DictFault;
+use crate::keys::Keys;
+use crate::order::keep_last_of_each;
+use crate::texts::Text;
+use serde_json::{Map, Value};
+use std::alloc::Global;
+
+/// The value of a file's bytes.
+fn read_value(alloc: Global, bytes: &[u8]) -> Result<Value, DictFault>
+    ensures ok { IfOk result (λ v. reading bytes.now ≡ Some (view v)) }
+    ensures err { IfErr result (IsCauseOf (value_outcome (reading bytes.now))) }
+{
+    match Value::from_slice(alloc, bytes) {
+        Ok(value) => Ok(value),
+        Err(error) if error.is_memory() => Err(DictFault::Memory),
+        Err(_) => Err(DictFault::NotJson),
+    }
+}
+
+/// The keys of an object's members, whose values are texts.
+fn walk(alloc: Global, map: Map<String, Value>) -> Result<Keys, DictFault>
+    requires { All (λ m. length m.name < 2 ^ 32) (members_of (members_view map.entries)) }
+    ensures texts { IfOk result (λ keys. find (λ m. is_none (keyed m)) (members_of (members_view map.entries)) ≡ None) }
+    ensures keys { IfOk result (λ keys. keys ≡ walked (filter_map keyed (members_of (members_view map.entries)))) }
+    ensures err { IfErr result (IsCauseOf (object_outcome (Some (members_view map.entries)))) }
+{
+    let mut keys = Keys::new(alloc);
+    for (key, value) in map {
+        match value {
+            Value::String(text) => {
+                if keys.add(alloc, key, text).is_err() {
+                    return Err(DictFault::Memory);
+                }
+            }
+            _ => return Err(DictFault::NotText {
+                key: Text::new(key),
+            }),
+        }
+    }
+    Ok(keys)
+}
+
+/// The dictionary of an object.
+fn read_object(alloc: Global, map: Map<String, Value>) -> Result<Dictionary, DictFault>
+    requires few { length (members_of (members_view map.entries)) < 2 ^ 32 }
+    requires short { All (λ m. length m.name < 2 ^ 32) (members_of (members_view map.entries)) }
+    ensures ok { IfOk result (λ d. object_outcome (Some (members_view map.entries)) ≡ dictionary d) }
+    ensures err { IfErr result (IsCauseOf (object_outcome (Some (members_view map.entries)))) }
+{
+    let Keys {
+        mut entries,
+        skipped,
+        too_long,
+    } = walk(alloc, map)?;
+    if let Some((key, parts)) = too_long {
+        return Err(DictFault::TooLong { key, parts });
+    }
+    match keep_last_of_each(&mut entries) {
+        Ok(folded) => Ok(Dictionary::new(entries, skipped, folded)),
+        Err(_) => Err(DictFault::Memory),
+    }
+}
+
+/// The dictionary of a file's bytes.
+///
+/// Refused where the bytes have no reading by `serde_json`; where the value is no object; where some value is no text; and
+/// where some key has more than 64 parts, all readable. Of the causes that hold the first one in this order is told, and of
+/// keys the first by bytes. The cost is that of reading the JSON and of sorting the entries; each text is kept once.
+pub fn read_dictionary(alloc: Global, bytes: &[u8]) -> Result<Dictionary, DictFault>
+    requires { length bytes.now < 2 ^ 32 }
+    ensures ok { IfOk result (λ d. dictionary_outcome bytes.now ≡ dictionary d) }
+    ensures err { IfErr result (IsCauseOf (dictionary_outcome bytes.now)) }
+{
+    match read_value(alloc, bytes)? {
+        Value::Object(map) => read_object(alloc, map),
+        _ => Err(DictFault::NotObject),
+    }
+}
