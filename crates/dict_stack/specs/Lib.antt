@@ -1,3 +1,4 @@
 pub mod Stacks
 pub mod Appearances
 pub mod Faults
+pub mod Candidates

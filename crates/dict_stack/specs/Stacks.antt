@@ -69,4 +69,4 @@ pub record IsStack (s : StackView) : Type 0 where
   pub each_flag : length s.words ≡ length s.outlines
   pub are_places : All (λ place. place < length s.skipped) s.from
   pub few_dictionaries : length s.skipped ≤ most_dictionaries
-  pub few_keys : s.folded + sum_by length s.skipped < 2 ^ 36
+  pub few_keys : s.folded + sum_by length s.skipped ≤ 2 ^ 36

@@ -4,6 +4,8 @@
 //! is named by its place in outline order, and a stroke by its place in order of first appearance.
 #![tactic(auto)]
 
+mod candidates;
+mod columns;
 mod faults;
 mod stacks;
 mod stroke_numbers;

@@ -6,6 +6,8 @@ ghost use Rattle.dict_stack.specs.Stacks.{stack_of, all_outlines, most_entries, 
 ghost use Rattle.dict_stack.specs.Appearances.{strokes_of_all, stroke_number_of};
 ghost use Rattle.dict_stack.specs.Faults.{IsCauseOf};
 
+use crate::candidates::{Collected, collect};
+use crate::columns::{Columns, merge};
 use crate::faults::StackFault;
 use crate::stroke_numbers::StrokeNumbers;
 use dict_json::{Dictionary, Text};
@@ -60,7 +62,29 @@ impl Stack {
         ensures few_entries { IfOk result (λ _. length (all_outlines dictionaries.items) ≤ most_entries) }
         ensures err { IfErr result (IsCauseOf (all_outlines dictionaries.items)) }
     {
-        Err(StackFault::Memory)
+        let Collected {
+            candidates,
+            skipped,
+            skipped_total,
+            folded_total,
+        } = collect(alloc, dictionaries, &word_files)?;
+        let Columns {
+            outlines,
+            texts,
+            from,
+            words,
+        } = merge(alloc, candidates)?;
+        let strokes = StrokeNumbers::of(alloc, &outlines)?;
+        Ok(Stack {
+            outlines,
+            texts,
+            from,
+            words,
+            skipped,
+            skipped_total,
+            folded_total,
+            strokes,
+        })
     }
 
     /// The number of entries.
