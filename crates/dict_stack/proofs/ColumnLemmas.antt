@@ -9,12 +9,12 @@ use Rattle.steno_rules.specs.Outlines.{outline_cmp, AreRising}
 use Rattle.steno_rules.specs.Nodes.{insert_new}
 use Rattle.steno_rules.proofs.Lists.{none_in_nil, in_cons, in_first, in_later, in_map}
 use Rattle.steno_rules.proofs.Numbers.{not_below_self}
-use Rattle.steno_rules.proofs.NodeLemmas.{Rises, AreRising-Rises}
 use Rattle.dict_json.specs.Dictionaries.{in_order}
 use Rattle.dict_stack.specs.Candidates.{candidate_outline, said_first, some_word, IsMerged, AreSorted, is_end}
 use Rattle.dict_stack.specs.declared.candidates.Candidate.{Candidate}
 use Rattle.dict_stack.specs.declared.columns.Columns.{Columns}
-use Rattle.dict_stack.proofs.OrderLemmas.{in_order-rises, in_order-rising, in_order-Contains, in_order_push}
+use Rattle.dict_json.proofs.InOrder.{in_order-rising, in_order-Contains}
+use Rattle.dict_stack.proofs.OrderLemmas.{in_order_push}
 use Rattle.dict_stack.proofs.EndLemmas.{NoneAbove, insert_last, not_there, is_end-front}
 use Rattle.dict_stack.proofs.FirstLemmas.{said_kept, said_new, word_kept, word_here, word_new}
 
@@ -45,11 +45,11 @@ pub outlines_push : (cs : List Candidate) (c : Candidate) → AreSorted (cs ++ c
 outlines_push cs c sorted =
     ap in_order (map-append candidate_outline cs (c ∷ []))
     ∙ in_order_push (map candidate_outline cs) (candidate_outline c)
-    ∙ insert_last (ordered cs) (candidate_outline c) (in_order-rises (map candidate_outline cs)) (none_above cs c sorted)
+    ∙ insert_last (ordered cs) (candidate_outline c) (in_order-rising (map candidate_outline cs)) (none_above cs c sorted)
 
 new_outline : (cs : List Candidate) (c : Candidate) → AreSorted (cs ++ c ∷ []) → is_end (ordered cs) (candidate_outline c) ≡ false → Contains (map candidate_outline cs) (candidate_outline c) → ⊥
 new_outline cs c sorted end has =
-    not_there (ordered cs) (candidate_outline c) (in_order-rises (map candidate_outline cs)) (none_above cs c sorted) end
+    not_there (ordered cs) (candidate_outline c) (in_order-rising (map candidate_outline cs)) (none_above cs c sorted) end
     ((in_order-Contains (map candidate_outline cs) (candidate_outline c)).1 has)
 
 module _ {A : Type 0} where

@@ -7,8 +7,8 @@ use Rattle.std.proofs.lemmas.Bool.{cases_lt}
 use Rattle.std.proofs.lemmas.List.Sorted.{searchable_from_sorted}
 use Rattle.steno_rules.specs.Outlines.{outline_cmp, AreRising, number_of, outline_of}
 use Rattle.steno_rules.proofs.Numbers.{not_below_self, number_of-outline_of, number_of-Some}
-use Rattle.steno_rules.proofs.NodeLemmas.{turned, same_of_equal}
-use Rattle.dict_stack.proofs.OrderLemmas.{sorted_of_rising}
+use Rattle.steno_rules.proofs.NodeLemmas.{same_of_equal}
+use Rattle.dict_stack.proofs.OrderLemmas.{sorted_of_rising, not_above_self}
 
 pub searchable : (entries : List (List ℕ)) (x : List ℕ) → AreRising entries → IsNonDecreasingBy (λ y. ordering_index (outline_cmp y x)) entries
 searchable entries x rising = searchable_from_sorted nat_list_cmp_total (λ y. y) entries x (sorted_of_rising entries rising)
@@ -33,5 +33,5 @@ number_missing xs entries x i are rising found = by (number_of entries x) refl (
         let found = number_of-Some entries x e is in
         elim (cases_lt e i) [
           | inl before ↦ absurd (not_below_self x (subst (λ y. outline_cmp y x ≡ Less) found.1 (split.0 e [] (omega arith) before)))
-          | inr after ↦ absurd (not_below_self x (turned x x (subst (λ y. outline_cmp y x ≡ Greater) found.1 (split.1 e [] after found.0))))
+          | inr after ↦ absurd (not_above_self x (subst (λ y. outline_cmp y x ≡ Greater) found.1 (split.1 e [] after found.0)))
         ]

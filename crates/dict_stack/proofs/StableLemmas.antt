@@ -12,7 +12,7 @@ use Rattle.dict_json.specs.Dictionaries.{Entry, in_order}
 use Rattle.dict_stack.specs.Candidates.{candidate, candidate_outline, spells, said_first, some_word, IsMerged}
 use Rattle.dict_stack.specs.declared.candidates.Candidate.{Candidate}
 use Rattle.dict_stack.specs.declared.columns.Columns.{Columns}
-use Rattle.dict_stack.proofs.OrderLemmas.{in_order-rising, in_order-Contains}
+use Rattle.dict_json.proofs.InOrder.{in_order-rising, in_order-Contains}
 use Rattle.dict_stack.proofs.ColumnLemmas.{map_same}
 
 module _ {X : Type 0} where

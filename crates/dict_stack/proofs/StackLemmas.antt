@@ -7,8 +7,8 @@ use Rattle.std.proofs.Math.Seq.{drop-cons}
 use Rattle.std.proofs.lemmas.List.{map-append}
 use Rattle.std.proofs.lemmas.List.Folds.{list_any-append, find-append}
 use Rattle.std.proofs.lemmas.Iterator.Adapters.{position_from-zero}
-use Rattle.dict_json.specs.Dictionaries.{Entry, DictionaryView, outlines_of}
-use Rattle.dict_stack.specs.Stacks.{is_at, has_outline, first_text, first_place, is_word}
+use Rattle.dict_json.specs.Dictionaries.{Entry, DictionaryView, outlines_of, has_outline}
+use Rattle.dict_stack.specs.Stacks.{dictionary_has, first_text, first_place, is_word}
 use Rattle.dict_stack.specs.Candidates.{candidate, candidates_from, candidate_outline, spells, said_first, some_word}
 use Rattle.dict_stack.specs.declared.candidates.Candidate.{Candidate}
 
@@ -23,12 +23,12 @@ candidates_outlines place (d ∷ ds) kinds =
     map-append candidate_outline (map (candidate place (get_or kinds place false)) d.entries) (candidates_from (suc place) ds kinds)
     ∙ ap₂ (λ a b. a ++ b) (entries_outlines place (get_or kinds place false) d.entries) (candidates_outlines (suc place) ds kinds)
 
-find_candidate : (place : ℕ) (w : Bool) (x : List ℕ) (entries : List Entry) → find (spells x) (map (candidate place w) entries) ≡ option_map (candidate place w) (find (is_at x) entries)
+find_candidate : (place : ℕ) (w : Bool) (x : List ℕ) (entries : List Entry) → find (spells x) (map (candidate place w) entries) ≡ option_map (candidate place w) (find (has_outline x) entries)
 find_candidate place w x [] = refl
-find_candidate place w x (e ∷ entries) = by (is_at x e) (find_candidate place w x entries)
+find_candidate place w x (e ∷ entries) = by (has_outline x e) (find_candidate place w x entries)
   where
-    by : (b : Bool) → find (spells x) (map (candidate place w) entries) ≡ option_map (candidate place w) (find (is_at x) entries) →
-        cond b (Some (candidate place w e)) (find (spells x) (map (candidate place w) entries)) ≡ option_map (candidate place w) (cond b (Some e) (find (is_at x) entries))
+    by : (b : Bool) → find (spells x) (map (candidate place w) entries) ≡ option_map (candidate place w) (find (has_outline x) entries) →
+        cond b (Some (candidate place w e)) (find (spells x) (map (candidate place w) entries)) ≡ option_map (candidate place w) (cond b (Some e) (find (has_outline x) entries))
     by true rest = refl
     by false rest = rest
 
@@ -41,24 +41,24 @@ find_any p (x ∷ xs) = by (p x) (find_any p xs)
     by false rest = rest
 
 find_in_all : (place : ℕ) (d : DictionaryView) (ds : List DictionaryView) (kinds : List Bool) (x : List ℕ) →
-    find (spells x) (candidates_from place (d ∷ ds) kinds) ≡ option_or (option_map (candidate place (get_or kinds place false)) (find (is_at x) d.entries)) (find (spells x) (candidates_from (suc place) ds kinds))
+    find (spells x) (candidates_from place (d ∷ ds) kinds) ≡ option_or (option_map (candidate place (get_or kinds place false)) (find (has_outline x) d.entries)) (find (spells x) (candidates_from (suc place) ds kinds))
 find_in_all place d ds kinds x =
     find-append (spells x) (map (candidate place (get_or kinds place false)) d.entries) (candidates_from (suc place) ds kinds)
     ∙ ap (λ o. option_or o (find (spells x) (candidates_from (suc place) ds kinds))) (find_candidate place (get_or kinds place false) x d.entries)
 
 text_found : (place : ℕ) (ds : List DictionaryView) (kinds : List Bool) (x : List ℕ) →
     option_map (λ c. c.entry.text) (find (spells x) (candidates_from place ds kinds))
-    ≡ option_and_then (λ d. option_map (λ e. e.text) (find (is_at x) d.entries)) (find (has_outline x) ds)
+    ≡ option_and_then (λ d. option_map (λ e. e.text) (find (has_outline x) d.entries)) (find (dictionary_has x) ds)
 text_found place [] kinds x = refl
 text_found place (d ∷ ds) kinds x =
     ap (option_map (λ c. c.entry.text)) (find_in_all place d ds kinds x)
-    ∙ by (find (is_at x) d.entries) refl (text_found (suc place) ds kinds x)
-    ∙ ap (λ b. option_and_then (λ e. option_map (λ f. f.text) (find (is_at x) e.entries)) (cond b (Some d) (find (has_outline x) ds))) (sym (find_any (is_at x) d.entries))
+    ∙ by (find (has_outline x) d.entries) refl (text_found (suc place) ds kinds x)
+    ∙ ap (λ b. option_and_then (λ e. option_map (λ f. f.text) (find (has_outline x) e.entries)) (cond b (Some d) (find (dictionary_has x) ds))) (sym (find_any (has_outline x) d.entries))
   where
-    by : (o : Option Entry) → find (is_at x) d.entries ≡ o →
-        option_map (λ c. c.entry.text) (find (spells x) (candidates_from (suc place) ds kinds)) ≡ option_and_then (λ e. option_map (λ f. f.text) (find (is_at x) e.entries)) (find (has_outline x) ds) →
-        option_map (λ c. c.entry.text) (option_or (option_map (candidate place (get_or kinds place false)) (find (is_at x) d.entries)) (find (spells x) (candidates_from (suc place) ds kinds)))
-        ≡ option_and_then (λ e. option_map (λ f. f.text) (find (is_at x) e.entries)) (cond (is_some (find (is_at x) d.entries)) (Some d) (find (has_outline x) ds))
+    by : (o : Option Entry) → find (has_outline x) d.entries ≡ o →
+        option_map (λ c. c.entry.text) (find (spells x) (candidates_from (suc place) ds kinds)) ≡ option_and_then (λ e. option_map (λ f. f.text) (find (has_outline x) e.entries)) (find (dictionary_has x) ds) →
+        option_map (λ c. c.entry.text) (option_or (option_map (candidate place (get_or kinds place false)) (find (has_outline x) d.entries)) (find (spells x) (candidates_from (suc place) ds kinds)))
+        ≡ option_and_then (λ e. option_map (λ f. f.text) (find (has_outline x) e.entries)) (cond (is_some (find (has_outline x) d.entries)) (Some d) (find (dictionary_has x) ds))
     by None is rest = rw is rest
     by (Some e) is rest = rw is (sym (ap (option_map {T = Entry} {U = List ℕ} (λ f. f.text)) is))
 
@@ -67,26 +67,26 @@ pub said_text : (ds : List DictionaryView) (kinds : List Bool) (x : List ℕ) �
 said_text ds kinds x = ap (λ o. unwrap_or o []) (text_found 0 ds kinds x)
 
 place_found : (place : ℕ) (ds : List DictionaryView) (kinds : List Bool) (x : List ℕ) →
-    option_map (λ c. c.place) (find (spells x) (candidates_from place ds kinds)) ≡ position_from (has_outline x) place ds
+    option_map (λ c. c.place) (find (spells x) (candidates_from place ds kinds)) ≡ position_from (dictionary_has x) place ds
 place_found place [] kinds x = refl
 place_found place (d ∷ ds) kinds x =
     ap (option_map (λ c. c.place)) (find_in_all place d ds kinds x)
-    ∙ by (find (is_at x) d.entries) (place_found (suc place) ds kinds x)
-    ∙ ap₂ (λ b n. cond b (Some place) (position_from (has_outline x) n ds)) (sym (find_any (is_at x) d.entries)) (sym (add-one place))
+    ∙ by (find (has_outline x) d.entries) (place_found (suc place) ds kinds x)
+    ∙ ap₂ (λ b n. cond b (Some place) (position_from (dictionary_has x) n ds)) (sym (find_any (has_outline x) d.entries)) (sym (add-one place))
   where
-    by : (o : Option Entry) → option_map (λ c. c.place) (find (spells x) (candidates_from (suc place) ds kinds)) ≡ position_from (has_outline x) (suc place) ds →
+    by : (o : Option Entry) → option_map (λ c. c.place) (find (spells x) (candidates_from (suc place) ds kinds)) ≡ position_from (dictionary_has x) (suc place) ds →
         option_map (λ c. c.place) (option_or (option_map (candidate place (get_or kinds place false)) o) (find (spells x) (candidates_from (suc place) ds kinds)))
-        ≡ cond (is_some o) (Some place) (position_from (has_outline x) (suc place) ds)
+        ≡ cond (is_some o) (Some place) (position_from (dictionary_has x) (suc place) ds)
     by None rest = rest
     by (Some e) rest = refl
 
 pub said_place : (ds : List DictionaryView) (kinds : List Bool) (x : List ℕ) → said_first (λ c. c.place) 0 (candidates_from 0 ds kinds) x ≡ first_place ds x
-said_place ds kinds x = ap (λ o. unwrap_or o 0) (place_found 0 ds kinds x ∙ sym (position_from-zero (has_outline x) ds))
+said_place ds kinds x = ap (λ o. unwrap_or o 0) (place_found 0 ds kinds x ∙ sym (position_from-zero (dictionary_has x) ds))
 
-any_flag : (place : ℕ) (w : Bool) (x : List ℕ) (entries : List Entry) → some_word (map (candidate place w) entries) x ≡ (w && list_any (is_at x) entries)
+any_flag : (place : ℕ) (w : Bool) (x : List ℕ) (entries : List Entry) → some_word (map (candidate place w) entries) x ≡ (w && list_any (has_outline x) entries)
 any_flag place true x [] = refl
 any_flag place false x [] = refl
-any_flag place true x (e ∷ entries) = ap (λ b. is_at x e || b) (any_flag place true x entries)
+any_flag place true x (e ∷ entries) = ap (λ b. has_outline x e || b) (any_flag place true x entries)
 any_flag place false x (e ∷ entries) = any_flag place false x entries
 
 words_found : (place : ℕ) (ds : List DictionaryView) (kinds : List Bool) (x : List ℕ) → place + length ds ≤ length kinds →

@@ -7,11 +7,11 @@ use Rattle.steno_rules.specs.Outlines.{AreRising}
 use Rattle.steno_rules.proofs.Lists.{none_in_nil, in_map}
 use Rattle.steno_rules.proofs.TrialLemmas.{all_of}
 use Rattle.dict_json.specs.Dictionaries.{DictionaryView, outlines_of, in_order}
-use Rattle.dict_stack.specs.Stacks.{StackView, IsStack, stack_of, all_outlines, first_text, first_place, is_word, has_outline, most_entries, most_dictionaries}
+use Rattle.dict_stack.specs.Stacks.{StackView, IsStack, stack_of, all_outlines, first_text, first_place, is_word, dictionary_has, most_entries, most_dictionaries}
 use Rattle.dict_stack.specs.Candidates.{candidates_from, candidate_outline, said_first, some_word, IsShort, IsCollected, IsMerged}
 use Rattle.dict_stack.specs.declared.candidates.Collected.{Collected}
 use Rattle.dict_stack.specs.declared.columns.Columns.{Columns}
-use Rattle.dict_stack.proofs.OrderLemmas.{in_order-rising, in_order-Contains}
+use Rattle.dict_json.proofs.InOrder.{in_order-rising, in_order-Contains}
 use Rattle.dict_stack.proofs.ColumnLemmas.{map_same}
 use Rattle.dict_stack.proofs.StackLemmas.{candidates_outlines, said_text, said_place, some_words}
 
@@ -65,11 +65,11 @@ module _ (ds : List DictionaryView) (kinds : List Bool) (c : Collected) (columns
   some x (d ∷ dictionaries) has = omega arith
 
   place_within : (x : List ℕ) → Contains (all_outlines ds) x → first_place ds x < length ds
-  place_within x has = by (position (has_outline x) ds) refl
+  place_within x has = by (position (dictionary_has x) ds) refl
     where
-      by : (o : Option ℕ) → position (has_outline x) ds ≡ o → unwrap_or o 0 < length ds
+      by : (o : Option ℕ) → position (dictionary_has x) ds ≡ o → unwrap_or o 0 < length ds
       by None is = some x ds ((in_order-Contains (flat_map (λ d. outlines_of d.entries) ds) x).0 has)
-      by (Some i) is = (position-Some (has_outline x) ds i (record { entries = []; skipped = []; folded = 0 }) is).0
+      by (Some i) is = (position-Some (dictionary_has x) ds i (record { entries = []; skipped = []; folded = 0 }) is).0
 
   pub total_is : c.skipped_total ≡ sum_by length (map (λ keys. keys.items) c.skipped.items)
   total_is = collected.skipped_total_is ∙ ap (sum_by length) (sym collected.skipped_are)

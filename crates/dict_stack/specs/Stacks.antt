@@ -1,11 +1,10 @@
 -- The stack of dictionaries, the first of which has the highest priority.
 --     stack_of dictionaries kinds     its entries in outline order, with their texts, and which of them are words
 --     IsStack s                       what every stack is
-use Rattle.std.specs.Prelude.{ℕ, ◌≡◌, ◌+◌, ◌<◌, ◌≤◌, ◌^◌, List, [], Bool, ◌&&◌, All, map, flat_map, find, zip, length, nat_eq, sum_by, Option, unwrap_or, option_map, option_and_then, position}
+use Rattle.std.specs.Prelude.{ℕ, ◌≡◌, ◌+◌, ◌<◌, ◌≤◌, ◌^◌, List, [], Bool, ◌&&◌, All, map, flat_map, find, zip, length, sum_by, Option, unwrap_or, option_map, option_and_then, position}
 use Rattle.std.specs.List.{list_any}
-use Rattle.std.specs.Cmp.Lexicographic.{pointwise}
 use Rattle.steno_rules.specs.Outlines.{AreEntries}
-use Rattle.dict_json.specs.Dictionaries.{Entry, DictionaryView, outlines_of, in_order}
+use Rattle.dict_json.specs.Dictionaries.{DictionaryView, outlines_of, in_order, has_outline}
 
 -- the entries by number, with their translations, the places of the dictionaries that these are from, and which entries are words;
 -- and of each dictionary the skipped keys, and of all the number of folded keys
@@ -17,13 +16,9 @@ pub record StackView : Type 0 where
   pub skipped : List (List (List ℕ))
   pub folded : ℕ
 
--- the entry has this outline
-abbrev pub is_at : List ℕ → Entry → Bool
-is_at outline entry = pointwise nat_eq entry.outline outline
-
--- some entry of the dictionary has it
-abbrev pub has_outline : List ℕ → DictionaryView → Bool
-has_outline outline dictionary = list_any (is_at outline) dictionary.entries
+-- some entry of the dictionary has the outline
+abbrev pub dictionary_has : List ℕ → DictionaryView → Bool
+dictionary_has outline dictionary = list_any (has_outline outline) dictionary.entries
 
 -- all outlines that some dictionary has, in their order, each once
 abbrev pub all_outlines : List DictionaryView → List (List ℕ)
@@ -31,15 +26,15 @@ all_outlines dictionaries = in_order (flat_map (λ d. outlines_of d.entries) dic
 
 -- the text of an outline in the first dictionary that has it
 abbrev pub first_text : List DictionaryView → List ℕ → List ℕ
-first_text dictionaries outline = unwrap_or (option_and_then (λ d. option_map (λ e. e.text) (find (is_at outline) d.entries)) (find (has_outline outline) dictionaries)) []
+first_text dictionaries outline = unwrap_or (option_and_then (λ d. option_map (λ e. e.text) (find (has_outline outline) d.entries)) (find (dictionary_has outline) dictionaries)) []
 
 -- the place of that dictionary
 abbrev pub first_place : List DictionaryView → List ℕ → ℕ
-first_place dictionaries outline = unwrap_or (position (has_outline outline) dictionaries) 0
+first_place dictionaries outline = unwrap_or (position (dictionary_has outline) dictionaries) 0
 
 -- some dictionary has the outline whose kind says that its outlines are words
 abbrev pub is_word : List DictionaryView → List Bool → List ℕ → Bool
-is_word dictionaries kinds outline = list_any (λ d. d.1 && has_outline outline d.0) (zip dictionaries kinds)
+is_word dictionaries kinds outline = list_any (λ d. d.1 && dictionary_has outline d.0) (zip dictionaries kinds)
 
 -- the kinds say of each dictionary whether its outlines are words
 abbrev pub stack_of : List DictionaryView → List Bool → StackView

@@ -12,3 +12,6 @@ mod stroke_numbers;
 
 pub use faults::StackFault;
 pub use stacks::Stack;
+
+#[cfg(test)]
+mod tests;
