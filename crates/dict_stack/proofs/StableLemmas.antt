@@ -7,7 +7,7 @@ use Rattle.std.specs.Cmp.Lexicographic.{pointwise, bytes_decides, nat_list_cmp_t
 use Rattle.std.proofs.lemmas.Map.Text.{is_eq-slice_cmp}
 use Rattle.std.proofs.lemmas.List.Sorted.{IsPermutation-map, IsPermutation-sym, Contains-permutation, list_any-IsPermutation}
 use Rattle.steno_rules.specs.Outlines.{outline_cmp}
-use Rattle.steno_rules.proofs.WordSetLemmas.{rising_same}
+use Rattle.steno_rules.proofs.Rising.{rising_same}
 use Rattle.dict_json.specs.Dictionaries.{Entry, in_order}
 use Rattle.dict_stack.specs.Candidates.{candidate, candidate_outline, spells, said_first, some_word, IsMerged}
 use Rattle.dict_stack.specs.declared.candidates.Candidate.{Candidate}
@@ -61,7 +61,7 @@ module _ {A : Type 0} where
 
 -- Lists with the same members are the same in order.
 pub in_order_same : (xs ys : List (List ℕ)) → ((z : List ℕ) → Contains xs z ↔ Contains ys z) → in_order xs ≡ in_order ys
-in_order_same xs ys same = rising_same (in_order xs) (in_order ys) (in_order-rising xs) (in_order-rising ys) (λ z. (
+in_order_same xs ys same = rising_same outline_cmp nat_list_cmp_total (in_order xs) (in_order ys) (in_order-rising xs) (in_order-rising ys) (λ z. (
   λ h. (in_order-Contains ys z).1 ((same z).0 ((in_order-Contains xs z).0 h)),
   λ h. (in_order-Contains xs z).1 ((same z).1 ((in_order-Contains ys z).0 h)),
 ))

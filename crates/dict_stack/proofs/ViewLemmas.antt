@@ -4,8 +4,7 @@ use Rattle.std.proofs.lemmas.List.{length-map}
 use Rattle.std.proofs.lemmas.List.Elements.{All-contains, All-map}
 use Rattle.std.proofs.lemmas.List.Quantifiers.{position-Some}
 use Rattle.steno_rules.specs.Outlines.{AreRising}
-use Rattle.steno_rules.proofs.Lists.{none_in_nil, in_map}
-use Rattle.steno_rules.proofs.TrialLemmas.{all_of}
+use Rattle.steno_rules.proofs.Lists.{none_in_nil, in_map, all_of}
 use Rattle.dict_json.specs.Dictionaries.{DictionaryView, outlines_of, in_order}
 use Rattle.dict_stack.specs.Stacks.{StackView, IsStack, stack_of, all_outlines, first_text, first_place, is_word, dictionary_has, most_entries, most_dictionaries}
 use Rattle.dict_stack.specs.Candidates.{candidates_from, candidate_outline, said_first, some_word, IsShort, IsCollected, IsMerged}

@@ -1,6 +1,6 @@
 use Rattle.std.proofs.Common.{subst}
 use Rattle.steno_rules.specs.Outlines.{AreWords, words_of}
-use Rattle.steno_rules.proofs.Words.{words_of-are}
+use Rattle.steno_rules.proofs.FlaggedWords.{words_of-are}
 use Rattle.dict_stack.proofs.stacks.Stack.words.Goals as goal
 
 pub returns-clause-are_words : goal.returns-clause-are_words
