@@ -1,9 +1,9 @@
 -- One more dictionary.
-use Rattle.std.proofs.Common.{◌≡◌, ℕ, suc, ◌+◌, ◌*◌, ◌<◌, ◌≤◌, ◌^◌, List, [], ◌∷◌, ◌++◌, length, get_or, map, refl, sym, ap, subst, ◌∙◌, arith, Bool, false, All, sum_by, append_assoc}
+use Rattle.std.proofs.Common.{◌≡◌, ℕ, suc, ◌+◌, ◌<◌, ◌^◌, List, [], ◌∷◌, ◌++◌, length, get_or, map, sym, ap, subst, ◌∙◌, arith, Bool, false, All, sum_by, append_assoc}
 use Rattle.std.proofs.lemmas.List.{length-map, length_push, map-append, append-nil}
 use Rattle.std.proofs.lemmas.List.Elements.{All-append, All-map}
 use Rattle.std.proofs.lemmas.List.Sums.{sum_by_push}
-use Rattle.dict_json.specs.Dictionaries.{Entry, DictionaryView}
+use Rattle.dict_json.specs.Dictionaries.{DictionaryView}
 use Rattle.dict_stack.specs.Candidates.{candidate, candidates_from, candidate_outline, IsShort, IsCollected}
 use Rattle.dict_stack.specs.declared.candidates.Candidate.{Candidate}
 use Rattle.dict_stack.specs.declared.candidates.Collected.{Collected}

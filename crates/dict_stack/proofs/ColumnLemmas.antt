@@ -1,13 +1,11 @@
 -- One more candidate, whose outline isn't below the others.
-use Rattle.std.proofs.Common.{◌≡◌, ℕ, suc, ◌+◌, ◌-◌, ◌<◌, List, [], ◌∷◌, ◌++◌, length, get_or, set, map, refl, sym, ap, ap₂, subst, ◌∙◌, arith, Bool, true, false, true≢false, ◌||◌, cond, Contains, Less}
-use Rattle.std.specs.List.{AllByRecursion}
+use Rattle.std.proofs.Common.{◌≡◌, ℕ, ◌-◌, ◌<◌, List, [], ◌∷◌, ◌++◌, length, get_or, set, map, refl, sym, ap, ap₂, subst, ◌∙◌, arith, Bool, true, false, ◌||◌, cond, Contains, Less}
 use Rattle.std.specs.Ordering.{is_lt}
 use Rattle.std.specs.Cmp.Lexicographic.{nat_list_cmp_total}
-use Rattle.std.proofs.lemmas.List.{length-map, length_push, map-append, get_or_at, get_or_append_left, get_or_default, set_at}
+use Rattle.std.proofs.lemmas.List.{length_push, map-append, get_or_at, get_or_append_left, get_or_default, set_at}
 use Rattle.std.proofs.lemmas.List.Sorted.{sorted_far, ranks_by}
 use Rattle.steno_rules.specs.Outlines.{outline_cmp, AreRising}
-use Rattle.steno_rules.specs.Nodes.{insert_new}
-use Rattle.steno_rules.proofs.Lists.{none_in_nil, in_cons, in_first, in_later, in_map}
+use Rattle.steno_rules.proofs.Lists.{in_first, in_later, in_map}
 use Rattle.steno_rules.proofs.Numbers.{not_below_self}
 use Rattle.dict_json.specs.Dictionaries.{in_order}
 use Rattle.dict_stack.specs.Candidates.{candidate_outline, said_first, some_word, IsMerged, AreSorted, is_end}

@@ -1,8 +1,7 @@
 -- One more outline, which isn't below those that are there: it is the last one already, or goes to the end.
-use Rattle.std.proofs.Common.{◌≡◌, ℕ, suc, ◌-◌, ◌<◌, List, [], ◌∷◌, ◌++◌, length, refl, sym, ap, subst, ◌∙◌, arith, Bool, true, false, true≢false, nat_eq, cond, Some, slice_get, Contains, ◌⊎◌, inl, inr, Ordering, Less, Equal, Greater, is_eq}
+use Rattle.std.proofs.Common.{◌≡◌, ℕ, suc, ◌-◌, ◌<◌, List, [], ◌∷◌, ◌++◌, length, refl, sym, ap, subst, ◌∙◌, arith, Bool, true, false, true≢false, nat_eq, cond, Some, slice_get, Contains, inl, inr, Ordering, Less, Equal, Greater}
 use Rattle.std.specs.Ordering.{is_lt}
 use Rattle.std.specs.Cmp.Lexicographic.{pointwise, bytes_decides}
-use Rattle.std.proofs.lemmas.Map.Text.{is_eq-slice_cmp}
 use Rattle.steno_rules.specs.Outlines.{outline_cmp, AreRising}
 use Rattle.steno_rules.specs.Nodes.{by_order, insert_new}
 use Rattle.steno_rules.proofs.Lists.{none_in_nil, in_cons, in_first, in_later}

@@ -1,5 +1,5 @@
 -- The outlines of a dictionary's entries.
-use Rattle.std.proofs.Common.{◌≡◌, ℕ, ◌<◌, ◌≤◌, List, length, subst, arith, All}
+use Rattle.std.proofs.Common.{◌<◌, ◌≤◌, List, length, subst, arith, All}
 use Rattle.std.proofs.lemmas.List.{length-map, get_or-map}
 use Rattle.steno_rules.specs.Outlines.{AreEntries}
 use Rattle.dict_json.specs.Dictionaries.{Entry, outlines_of}

@@ -1,14 +1,13 @@
 -- Candidates that a stable sort puts in order say the same first.
-use Rattle.std.proofs.Common.{◌≡◌, ℕ, List, [], ◌∷◌, map, refl, sym, ap, subst, ◌∙◌, Bool, true, false, not, ◌&&◌, cond, nat_eq, find, filter, Option, Some, None, unwrap_or, option_map, Contains, ◌↔◌, Ordering, Less, Equal, Greater, is_eq}
-use Rattle.std.specs.List.{list_any}
+use Rattle.std.proofs.Common.{◌≡◌, ℕ, List, [], ◌∷◌, map, refl, sym, ap, ◌∙◌, Bool, true, false, not, ◌&&◌, cond, nat_eq, find, filter, Option, Some, None, unwrap_or, option_map, Contains, ◌↔◌, Ordering, Less, Equal, Greater, is_eq}
 use Rattle.std.specs.List.Sorted.{IsPermutation, IsStableByKey, ties}
 use Rattle.std.specs.Ordering.{is_lt, ordering_reverse}
-use Rattle.std.specs.Cmp.Lexicographic.{pointwise, bytes_decides, nat_list_cmp_total}
+use Rattle.std.specs.Cmp.Lexicographic.{pointwise, nat_list_cmp_total}
 use Rattle.std.proofs.lemmas.Map.Text.{is_eq-slice_cmp}
 use Rattle.std.proofs.lemmas.List.Sorted.{IsPermutation-map, IsPermutation-sym, Contains-permutation, list_any-IsPermutation}
 use Rattle.steno_rules.specs.Outlines.{outline_cmp}
 use Rattle.steno_rules.proofs.Rising.{rising_same}
-use Rattle.dict_json.specs.Dictionaries.{Entry, in_order}
+use Rattle.dict_json.specs.Dictionaries.{in_order}
 use Rattle.dict_stack.specs.Candidates.{candidate, candidate_outline, spells, said_first, some_word, IsMerged}
 use Rattle.dict_stack.specs.declared.candidates.Candidate.{Candidate}
 use Rattle.dict_stack.specs.declared.columns.Columns.{Columns}

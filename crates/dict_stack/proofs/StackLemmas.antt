@@ -1,8 +1,7 @@
 -- The candidates of dictionaries, by their outlines.
-use Rattle.std.proofs.Common.{◌≡◌, ℕ, suc, ◌+◌, ◌<◌, ◌≤◌, List, [], ◌∷◌, ◌++◌, length, get_or, drop, map, flat_map, refl, sym, ap, ap₂, subst, ◌∙◌, arith, Bool, true, false, ◌&&◌, ◌||◌, cond, nat_eq, find, zip, position, Option, Some, None, is_some, unwrap_or, option_map, option_and_then, add-one}
+use Rattle.std.proofs.Common.{◌≡◌, ℕ, suc, ◌+◌, ◌≤◌, List, [], ◌∷◌, ◌++◌, length, get_or, drop, map, flat_map, refl, sym, ap, ap₂, ◌∙◌, arith, Bool, true, false, ◌&&◌, ◌||◌, cond, find, Option, Some, None, is_some, unwrap_or, option_map, option_and_then, add-one}
 use Rattle.std.specs.List.{list_any, position_from}
 use Rattle.std.specs.Option.{option_or}
-use Rattle.std.specs.Cmp.Lexicographic.{pointwise}
 use Rattle.std.proofs.Math.Seq.{drop-cons}
 use Rattle.std.proofs.lemmas.List.{map-append}
 use Rattle.std.proofs.lemmas.List.Folds.{list_any-append, find-append}
@@ -10,7 +9,6 @@ use Rattle.std.proofs.lemmas.Iterator.Adapters.{position_from-zero}
 use Rattle.dict_json.specs.Dictionaries.{Entry, DictionaryView, outlines_of, has_outline}
 use Rattle.dict_stack.specs.Stacks.{dictionary_has, first_text, first_place, is_word}
 use Rattle.dict_stack.specs.Candidates.{candidate, candidates_from, candidate_outline, spells, said_first, some_word}
-use Rattle.dict_stack.specs.declared.candidates.Candidate.{Candidate}
 
 entries_outlines : (place : ℕ) (w : Bool) (entries : List Entry) → map candidate_outline (map (candidate place w) entries) ≡ outlines_of entries
 entries_outlines place w [] = refl

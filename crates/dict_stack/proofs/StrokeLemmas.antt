@@ -1,5 +1,5 @@
 -- One more stroke, and the strokes of one more outline.
-use Rattle.std.proofs.Common.{◌≡◌, ℕ, ◌+◌, ◌<◌, ◌≤◌, ◌==◌, List, [], ◌∷◌, ◌++◌, length, get_or, take, fold, refl, sym, ap, ◌∙◌, arith, Bool, true, false, cond}
+use Rattle.std.proofs.Common.{◌≡◌, ℕ, ◌+◌, ◌<◌, ◌≤◌, ◌==◌, List, [], ◌∷◌, ◌++◌, length, get_or, take, fold, sym, ap, ◌∙◌, arith, Bool, true, false, cond}
 use Rattle.std.specs.List.{concat, list_any}
 use Rattle.std.proofs.lemmas.List.{length_push, append-nil, take_more}
 use Rattle.std.proofs.lemmas.List.Sums.{fold-append}

@@ -2,7 +2,7 @@
 --     candidates_from place dictionaries kinds     those of these dictionaries, the first of which has this place
 --     IsCollected dictionaries kinds collected     what is moved out of these dictionaries
 --     IsMerged candidates columns                  what stands of the candidates, column by column
-use Rattle.std.specs.Prelude.{ℕ, ◌≡◌, ◌+◌, ◌*◌, ◌<◌, ◌≤◌, ◌^◌, suc, List, [], ◌∷◌, ◌++◌, Bool, ◌&&◌, false, All, map, find, length, nat_eq, sum_by, Option, unwrap_or, option_map, slice_index_or}
+use Rattle.std.specs.Prelude.{ℕ, ◌≡◌, ◌+◌, ◌*◌, ◌<◌, ◌≤◌, ◌^◌, suc, List, [], ◌∷◌, ◌++◌, Bool, ◌&&◌, false, All, map, find, length, nat_eq, sum_by, unwrap_or, option_map, slice_index_or}
 use Rattle.std.specs.List.{list_any}
 use Rattle.std.specs.List.Sorted.{IsSortedByKey}
 use Rattle.std.specs.Cmp.Lexicographic.{pointwise}

@@ -1,7 +1,7 @@
 -- The stack of dictionaries, the first of which has the highest priority.
 --     stack_of dictionaries kinds     its entries in outline order, with their texts, and which of them are words
 --     IsStack s                       what every stack is
-use Rattle.std.specs.Prelude.{ℕ, ◌≡◌, ◌+◌, ◌<◌, ◌≤◌, ◌^◌, List, [], Bool, ◌&&◌, All, map, flat_map, find, zip, length, sum_by, Option, unwrap_or, option_map, option_and_then, position}
+use Rattle.std.specs.Prelude.{ℕ, ◌≡◌, ◌+◌, ◌<◌, ◌≤◌, ◌^◌, List, [], Bool, ◌&&◌, All, map, flat_map, find, zip, length, sum_by, unwrap_or, option_map, option_and_then, position}
 use Rattle.std.specs.List.{list_any}
 use Rattle.steno_rules.specs.Outlines.{AreEntries}
 use Rattle.dict_json.specs.Dictionaries.{DictionaryView, outlines_of, in_order, has_outline}

@@ -33,7 +33,7 @@ fn stack_of_lines(
 }
 
 /// A stack as a text: of each entry its strokes with their numbers, its text, the place of its dictionary and whether it is a
-/// word, and at the end the numbers of skipped keys, folded keys and strokes.
+/// word; then the skipped keys of each dictionary, and the numbers of skipped keys, folded keys and strokes.
 fn shown(rt: &impl Abort, alloc: Global, stack: &Stack) -> Result<String, AllocError> {
     let mut text = String::new(alloc);
     for entry in 0..stack.entry_count() {
@@ -57,6 +57,12 @@ fn shown(rt: &impl Abort, alloc: Global, stack: &Stack) -> Result<String, AllocE
             kind
         )?)?;
     }
+    for dictionary in 0..stack.dictionary_count() {
+        for key in stack.skipped(dictionary) {
+            text.push_str(&format!(in alloc; "[{}] ", key.as_str())?)?;
+        }
+        text.push_str("; ")?;
+    }
     text.push_str(&format!(in alloc;
         "{} {} {}",
         stack.skipped_total(),
@@ -71,47 +77,47 @@ fn stacks_of_files(rt: HostRuntime) -> Result<(), AllocError> {
     let alloc = rt.alloc();
     // TEL has the code 133124 and KAT 524552, S- 2, T- 4, K- 8 and -S 1048576.
     let cases = [
-        ("{}", "0 0 0"),
+        ("{}", "; 0 0 0"),
         // The text of the higher dictionary wins.
         (
             "{\"KAT\": \"cat\"}\n{\"KAT\": \"feline\", \"TEL\": \"tell\"}",
-            "133124:0 tell 1 word, 524552:1 cat 0 word, 0 0 2",
+            "133124:0 tell 1 word, 524552:1 cat 0 word, ; ; 0 0 2",
         ),
         (
             "{\"KAT\": \"feline\", \"TEL\": \"tell\"}\n{\"KAT\": \"cat\"}",
-            "133124:0 tell 0 word, 524552:1 feline 0 word, 0 0 2",
+            "133124:0 tell 0 word, 524552:1 feline 0 word, ; ; 0 0 2",
         ),
         // A match file supplies no words.
         (
             "{\"KAT\": \"cat\", \"TEL\": \"tell\"}\nmatch:{\"KAT/TEL\": \"cattle\"}",
-            "133124:0 tell 0 word, 524552:1 cat 0 word, 524552:1 133124:0 cattle 1 match, 0 0 2",
+            "133124:0 tell 0 word, 524552:1 cat 0 word, 524552:1 133124:0 cattle 1 match, ; ; 0 0 2",
         ),
         (
             "match:{\"KAT/TEL\": \"cattle\"}",
-            "524552:0 133124:1 cattle 0 match, 0 0 2",
+            "524552:0 133124:1 cattle 0 match, ; 0 0 2",
         ),
         // What a match file has is a word where a word file below or above it has it too.
         (
             "match:{\"KAT\": \"cat\"}\n{\"KAT\": \"feline\"}",
-            "524552:0 cat 0 word, 0 0 1",
+            "524552:0 cat 0 word, ; ; 0 0 1",
         ),
         (
             "{\"KAT\": \"cat\"}\nmatch:{\"KAT\": \"feline\", \"TEL\": \"tell\"}",
-            "133124:0 tell 1 match, 524552:1 cat 0 word, 0 0 2",
+            "133124:0 tell 1 match, 524552:1 cat 0 word, ; ; 0 0 2",
         ),
         // Keys of one file that name one thing.
         (
             "{\"-S\": \"a\", \"S-S\": \"b\", \"STS\": \"c\", \"ST-S\": \"d\"}",
-            "1048576:0 a 0 word, 1048578:1 b 0 word, 1048582:2 c 0 word, 0 1 3",
+            "1048576:0 a 0 word, 1048578:1 b 0 word, 1048582:2 c 0 word, ; 0 1 3",
         ),
         // Keys that spell nothing, in one file and in two.
         (
             "{\"UE\": \"x\", \"-\": \"y\", \"\": \"z\", \"S//T\": \"q\", \"KAT\": \"cat\"}",
-            "524552:0 cat 0 word, 4 0 1",
+            "524552:0 cat 0 word, [] [-] [S//T] [UE] ; 4 0 1",
         ),
         (
             "{\"UE\": \"x\", \"K\": \"k\", \"K-\": \"k\"}\n{\"-\": \"x\", \"S\": \"s\", \"S-\": \"s\"}",
-            "2:0 s 1 word, 8:1 k 0 word, 2 2 2",
+            "2:0 s 1 word, 8:1 k 0 word, [UE] ; [-] ; 2 2 2",
         ),
     ];
     for (files, expected) in cases {

@@ -1,4 +1,4 @@
-use Rattle.std.proofs.Common.{sym, ◌∙◌, ap, Some}
+use Rattle.std.proofs.Common.{sym, ◌∙◌}
 use Rattle.dict_stack.proofs.EndLemmas.{is_end-last}
 use Rattle.dict_stack.proofs.columns.is_last.Goals as goal
 

@@ -1,4 +1,4 @@
-use Rattle.std.proofs.Common.{◌≡◌, ◌∙◌, ◌+◌, ◌-◌, sym, ap, ap₂, arith, not, nat_eq, cond}
+use Rattle.std.proofs.Common.{◌∙◌, ◌+◌, sym, ap, ap₂, arith, not, nat_eq, cond}
 use Rattle.std.specs.Cmp.Lexicographic.{pointwise}
 use Rattle.dict_stack.specs.Candidates.{candidate_outline}
 use Rattle.dict_stack.proofs.CountLemmas.{count_other, count_first}

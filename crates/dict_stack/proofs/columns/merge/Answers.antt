@@ -1,4 +1,4 @@
-use Rattle.std.proofs.Common.{◌≡◌, ◌<◌, ◌≤◌, ◌∙◌, sym, ap, subst, map, length, arith}
+use Rattle.std.proofs.Common.{◌≡◌, ◌<◌, ◌≤◌, ◌∙◌, ap, subst, map, length}
 use Rattle.dict_json.specs.Dictionaries.{in_order}
 use Rattle.dict_stack.specs.Candidates.{candidate_outline}
 use Rattle.dict_stack.proofs.StableLemmas.{merged_of_sorted, ordered_same}

@@ -1,6 +1,4 @@
-use Rattle.std.proofs.Common.{◌≡◌, sym, ap, ◌∙◌, subst, rules, Less, Greater}
-use Rattle.std.specs.List.Sorted.{IsPartitionPoint, IsNonDecreasingBy}
-use Rattle.std.specs.Ordering.{ordering_index}
+use Rattle.std.proofs.Common.{sym, ap, ◌∙◌, subst, rules}
 use Rattle.std.proofs.lemmas.Fn.{always_returns_same}
 use Rattle.steno_rules.specs.Outlines.{outline_cmp, AreRising}
 use Rattle.dict_stack.proofs.FindLemmas.{number_found, number_missing}

@@ -1,4 +1,4 @@
-use Rattle.std.proofs.Common.{◌≡◌, ◌≤◌, ◌∙◌, sym, ap, subst, length}
+use Rattle.std.proofs.Common.{◌≤◌, ◌∙◌, sym, ap, subst, length}
 use Rattle.std.proofs.lemmas.Result.{err_from_is_err_and}
 use Rattle.dict_stack.specs.Stacks.{all_outlines, most_entries}
 use Rattle.dict_stack.specs.Appearances.{strokes_of_all}

@@ -1,4 +1,4 @@
-use Rattle.std.proofs.Common.{◌≡◌, ◌+◌, ◌∙◌, ap, ap₂, fold, arith, length}
+use Rattle.std.proofs.Common.{◌∙◌, ap, ap₂, fold, arith, length}
 use Rattle.dict_stack.specs.Appearances.{with_new}
 use Rattle.dict_stack.proofs.StrokeLemmas.{strokes_more}
 use Rattle.dict_stack.proofs.stroke_numbers.StrokeNumbers.of.Goals as goal
