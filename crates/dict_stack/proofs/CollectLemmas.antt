@@ -8,6 +8,7 @@ use Rattle.dict_stack.specs.Candidates.{candidate, candidates_from, candidate_ou
 use Rattle.dict_stack.specs.declared.candidates.Candidate.{Candidate}
 use Rattle.dict_stack.specs.declared.candidates.Collected.{Collected}
 
+-- the candidates of one more dictionary follow the others
 pub candidates_push : (place : ℕ) (ds : List DictionaryView) (d : DictionaryView) (kinds : List Bool) →
     candidates_from place (ds ++ d ∷ []) kinds ≡ candidates_from place ds kinds ++ map (candidate (place + length ds) (get_or kinds (place + length ds) false)) d.entries
 candidates_push place [] d kinds =
@@ -20,8 +21,8 @@ candidates_push place (e ∷ ds) d kinds =
     ∙ sym (append_assoc here (candidates_from (suc place) ds kinds) (map (candidate (suc place + length ds) (get_or kinds (suc place + length ds) false)) d.entries))
     ∙ ap (λ n. (here ++ candidates_from (suc place) ds kinds) ++ map (candidate n (get_or kinds n false)) d.entries) moved
 
--- what the addition of a dictionary does
-pub record Adds (old : Collected) (d : DictionaryView) (is_word : Bool) (new : Collected) : Type 0 where
+-- what the addition of a dictionary does, as the contract says it
+pub record AddsDictionary (old : Collected) (d : DictionaryView) (is_word : Bool) (new : Collected) : Type 0 where
   pub candidates : new.candidates.items ≡ old.candidates.items ++ map (candidate (length old.skipped.items) is_word) d.entries
   pub skipped : map (λ keys. keys.items) new.skipped.items ≡ map (λ keys. keys.items) old.skipped.items ++ d.skipped ∷ []
   pub skipped_total : new.skipped_total ≡ old.skipped_total + length d.skipped
@@ -29,10 +30,12 @@ pub record Adds (old : Collected) (d : DictionaryView) (is_word : Bool) (new : C
   pub are_short : All (λ e. IsShort e.outline) d.entries
   pub few_more : d.folded + length d.skipped < 2 ^ 32
 
+-- as many lists of skipped keys as dictionaries
 pub places : (ds : List DictionaryView) (kinds : List Bool) (c : Collected) → IsCollected ds kinds c → length c.skipped.items ≡ length ds
 places ds kinds c is = sym (length-map c.skipped.items (λ keys. keys.items)) ∙ ap length is.skipped_are ∙ length-map ds (λ d. d.skipped)
 
-pub collected_push : (ds : List DictionaryView) (d : DictionaryView) (kinds : List Bool) (old new : Collected) → IsCollected ds kinds old → Adds old d (get_or kinds (length ds) false) new →
+-- What is collected with one more dictionary.
+pub collected_push : (ds : List DictionaryView) (d : DictionaryView) (kinds : List Bool) (old new : Collected) → IsCollected ds kinds old → AddsDictionary old d (get_or kinds (length ds) false) new →
     IsCollected (ds ++ d ∷ []) kinds new
 collected_push ds d kinds old new is adds = record {
   candidates_are = candidates ∙ sym (candidates_push 0 ds d kinds ∙ ap (λ n. candidates_from 0 ds kinds ++ map (candidate n (get_or kinds n false)) d.entries) (sym (omega arith)));

@@ -17,6 +17,7 @@ use Rattle.dict_stack.proofs.EndLemmas.{NoneAbove, insert_last, not_there, is_en
 use Rattle.dict_stack.proofs.FirstLemmas.{said_kept, said_new, word_kept, word_here, word_new}
 
 module _ {X Y : Type 0} where
+  -- two functions that agree on the members make one list
   pub map_same : (f g : X → Y) (xs : List X) → ((x : X) → Contains xs x → f x ≡ g x) → map f xs ≡ map g xs
   map_same f g [] same = refl
   map_same f g (x ∷ xs) same = ap₂ (λ y ys. y ∷ ys) (same x (in_first x xs)) (map_same f g xs (λ z has. same z (in_later x xs z has)))
@@ -25,6 +26,7 @@ module _ {X Y : Type 0} where
 abbrev pub ordered : List Candidate → List (List ℕ)
 ordered cs = in_order (map candidate_outline cs)
 
+-- sorted candidates have no outline above the last one's
 none_above : (cs : List Candidate) (c : Candidate) → AreSorted (cs ++ c ∷ []) → NoneAbove (ordered cs) (candidate_outline c)
 unfolding NoneAbove
 none_above cs c sorted y has =
@@ -45,12 +47,16 @@ outlines_push cs c sorted =
     ∙ in_order_push (map candidate_outline cs) (candidate_outline c)
     ∙ insert_last (ordered cs) (candidate_outline c) (in_order-rising (map candidate_outline cs)) (none_above cs c sorted)
 
+-- an outline that isn't the last of those before isn't one of them
 new_outline : (cs : List Candidate) (c : Candidate) → AreSorted (cs ++ c ∷ []) → is_end (ordered cs) (candidate_outline c) ≡ false → Contains (map candidate_outline cs) (candidate_outline c) → ⊥
 new_outline cs c sorted end has =
     not_there (ordered cs) (candidate_outline c) (in_order-rising (map candidate_outline cs)) (none_above cs c sorted) end
     ((in_order-Contains (map candidate_outline cs) (candidate_outline c)).1 has)
 
+-- ---- the columns of texts and places
+
 module _ {A : Type 0} where
+  -- a new outline adds what its candidate says
   column_new : (f : Candidate → A) (otherwise : A) (cs : List Candidate) (c : Candidate) (none : Contains (map candidate_outline cs) (candidate_outline c) → ⊥) →
       map (said_first f otherwise cs) (ordered cs) ++ f c ∷ [] ≡ map (said_first f otherwise (cs ++ c ∷ [])) (ordered cs ++ candidate_outline c ∷ [])
   column_new f otherwise cs c none = sym (
@@ -59,11 +65,13 @@ module _ {A : Type 0} where
       (map_same (said_first f otherwise (cs ++ c ∷ [])) (said_first f otherwise cs) (ordered cs) (λ y has. said_kept f otherwise cs c y ((in_order-Contains (map candidate_outline cs) y).0 has)))
       (said_new f otherwise cs c none))
 
+  -- the last outline again adds nothing
   column_kept : (f : Candidate → A) (otherwise : A) (cs : List Candidate) (c : Candidate) →
       map (said_first f otherwise cs) (ordered cs) ≡ map (said_first f otherwise (cs ++ c ∷ [])) (ordered cs)
   column_kept f otherwise cs c = sym (map_same (said_first f otherwise (cs ++ c ∷ [])) (said_first f otherwise cs) (ordered cs)
       (λ y has. said_kept f otherwise cs c y ((in_order-Contains (map candidate_outline cs) y).0 has)))
 
+-- a new outline adds the candidate's flag
 words_new : (cs : List Candidate) (c : Candidate) (none : Contains (map candidate_outline cs) (candidate_outline c) → ⊥) →
     map (some_word cs) (ordered cs) ++ c.is_word ∷ [] ≡ map (some_word (cs ++ c ∷ [])) (ordered cs ++ candidate_outline c ∷ [])
 words_new cs c none = sym (
@@ -72,10 +80,6 @@ words_new cs c none = sym (
     (map_same (some_word (cs ++ c ∷ [])) (some_word cs) (ordered cs)
     (λ y has. word_kept cs c y (λ same. none (subst (Contains (map candidate_outline cs)) (sym same) ((in_order-Contains (map candidate_outline cs) y).0 has)))))
     (word_new cs c none))
-
--- what the first dictionary's text and place are
-abbrev text_of : Candidate → List ℕ
-text_of c = c.entry.text
 
 -- A new outline goes to the end.
 pub merged_new : (cs : List Candidate) (c : Candidate) (old new : Columns) → IsMerged cs old → AreSorted (cs ++ c ∷ []) → is_end old.outlines.items (candidate_outline c) ≡ false →
@@ -100,19 +104,24 @@ merged_new cs c old new is sorted end outlines texts from words = record {
     all : new.outlines.items ≡ in_order (map candidate_outline (cs ++ c ∷ []))
     all = put ∙ sym (outlines_push cs c sorted ∙ ap (λ b. cond b (ordered cs) (ordered cs ++ candidate_outline c ∷ [])) end_is)
 
--- the last flag, or this one
+-- ---- the last flag
+
+-- the flags with the last one, or this one, in the last place
 abbrev pub or_last : List Bool → Bool → List Bool
 or_last flags w = set flags (length flags - 1) (get_or flags (length flags - 1) false || w)
 
+-- the last flag as it stands at the end of others
 or_last_push : (flags : List Bool) (b w : Bool) → or_last (flags ++ b ∷ []) w ≡ flags ++ (b || w) ∷ []
 or_last_push flags b w =
     let long : length flags ≡ length (flags ++ b ∷ []) - 1 = omega (arith, length_push flags b) in
     ap (λ v. set (flags ++ b ∷ []) (length (flags ++ b ∷ []) - 1) (v || w)) (get_or_at flags b [] false (length (flags ++ b ∷ []) - 1) long)
     ∙ set_at flags b [] (b || w) (length (flags ++ b ∷ []) - 1) long
 
+-- a write of the last flag, as the code does it
 pub or_last_is : (flags : List Bool) (n : ℕ) (last w : Bool) → n ≡ length flags → 0 < n → last ≡ get_or flags (n - 1) last → set flags (n - 1) (last || w) ≡ or_last flags w
 or_last_is flags n last w long some is = ap₂ (λ k v. set flags (k - 1) (v || w)) long (is ∙ get_or_default flags (n - 1) last false (omega (arith, long, some)) ∙ ap (λ k. get_or flags (k - 1) false) long)
 
+-- of rising outlines the last one is none of the others
 front_below : (front : List (List ℕ)) (x y : List ℕ) → AreRising (front ++ x ∷ []) → Contains front y → x ≡ y → ⊥
 front_below front x y rising has same =
     let less : outline_cmp y x ≡ Less =
@@ -120,6 +129,7 @@ front_below front x y rising has same =
     ∙ rising has.0 (length front) y has.1 (omega (arith, length_push front x)) in
     not_below_self y (subst (λ z. outline_cmp y z ≡ Less) same less)
 
+-- the last outline again may make a word of it
 words_or : (cs : List Candidate) (c : Candidate) → is_end (ordered cs) (candidate_outline c) ≡ true → or_last (map (some_word cs) (ordered cs)) c.is_word ≡ map (some_word (cs ++ c ∷ [])) (ordered cs)
 words_or cs c end = by (is_end-front (ordered cs) (candidate_outline c) end)
   where

@@ -10,6 +10,7 @@ use Rattle.dict_stack.specs.declared.candidates.Candidate.{Candidate}
 use Rattle.dict_stack.proofs.EndLemmas.{is_end_push, is_end-front}
 use Rattle.dict_stack.proofs.ColumnLemmas.{ordered, outlines_push}
 
+-- the front of a sorted list is sorted
 pub sorted_take : {X : Type 0} (lt : X → X → Bool) (n : ℕ) (xs : List X) → IsSortedBy lt xs → IsSortedBy lt (take n xs)
 sorted_take lt n xs sorted k d low below =
     let short : length (take n xs) ≡ min n (length xs) = length-take n xs in
@@ -47,6 +48,7 @@ end_before cs i before x sorted some within is =
     let whole : take i cs ≡ take (i - 1) cs ++ before ∷ [] = ap (λ n. take n cs) j ∙ take_more cs (i - 1) before (omega arith) ∙ ap (λ d. take (i - 1) cs ++ d ∷ []) (sym is) in
     ap (λ l. is_end (ordered l) x) whole ∙ end_of_last (take (i - 1) cs) before x (next_sorted cs (i - 1) before sorted (omega arith) is)
 
+-- a test turned round
 not_is : (b c : Bool) → not b ≡ c → b ≡ not c
 not_is true c h = ap not h
 not_is false c h = ap not h

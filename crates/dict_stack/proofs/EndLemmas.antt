@@ -21,6 +21,7 @@ is_end-last (o ∷ p ∷ outlines) last outline h =
     let later : suc (suc (length outlines)) - 1 ≡ suc (suc (length outlines) - 1) = omega arith in
     is_end-last (p ∷ outlines) last outline (subst (λ n. slice_get (o ∷ p ∷ outlines) n ≡ Some last) later h)
 
+-- the last outline of a list with one more is that one
 pub is_end_push : (ys : List (List ℕ)) (y x : List ℕ) → is_end (ys ++ y ∷ []) x ≡ pointwise nat_eq y x
 is_end_push [] y x = refl
 is_end_push (z ∷ []) y x = refl
@@ -32,18 +33,22 @@ is_end-front [] x h = absurd (true≢false (sym h))
 is_end-front (y ∷ []) x h = ([], ap (λ l. l ∷ []) ((bytes_decides y x).0 h))
 is_end-front (y ∷ z ∷ ys) x h = let rest = is_end-front (z ∷ ys) x h in (y ∷ rest.0, ap (λ l. y ∷ l) rest.1)
 
+-- a list that ends with an outline isn't empty
 pub is_end-some : (ys : List (List ℕ)) (x : List ℕ) → is_end ys x ≡ true → 0 < length ys
 is_end-some [] x h = absurd (true≢false (sym h))
 is_end-some (y ∷ ys) x h = omega arith
 
+-- the test of the order
 less_is : (x y : List ℕ) → outline_cmp x y ≡ Less → is_lt (outline_cmp x y) ≡ true
 less_is x y h = ap is_lt h
 
+-- of rising outlines only the last one can be x where none is above x
 above_next : (x y z : List ℕ) (ys : List (List ℕ)) → AreRising (y ∷ z ∷ ys) → y ≡ x → NoneAbove (y ∷ z ∷ ys) x → ⊥
 unfolding NoneAbove
 above_next x y z ys rising same none =
     true≢false (sym (less_is x z (subst (λ l. outline_cmp l z ≡ Less) same (first_below y z ys rising))) ∙ none z (in_later y (z ∷ ys) z (in_first z ys)))
 
+-- nor is one of the rest above x
 pub none_above_rest : (x y : List ℕ) (ys : List (List ℕ)) → NoneAbove (y ∷ ys) x → NoneAbove ys x
 unfolding NoneAbove
 none_above_rest x y ys none z has = none z (in_later y ys z has)

@@ -10,6 +10,7 @@ use Rattle.steno_rules.proofs.Numbers.{not_below_self, number_of-outline_of, num
 use Rattle.steno_rules.proofs.NodeLemmas.{same_of_equal}
 use Rattle.dict_stack.proofs.OrderLemmas.{sorted_of_rising, not_above_self}
 
+-- rising outlines compare with x in the order that a binary search asks for
 pub searchable : (entries : List (List ℕ)) (x : List ℕ) → AreRising entries → IsNonDecreasingBy (λ y. ordering_index (outline_cmp y x)) entries
 searchable entries x rising = searchable_from_sorted nat_list_cmp_total (λ y. y) entries x (sorted_of_rising entries rising)
 

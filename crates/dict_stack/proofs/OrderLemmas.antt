@@ -1,11 +1,12 @@
 -- The order of outlines, and outlines in order with one more.
-use Rattle.std.proofs.Common.{◌≡◌, ℕ, suc, ◌+◌, List, [], ◌∷◌, ◌++◌, get_or, sym, ap, ◌∙◌, arith, false, Less, Greater}
+use Rattle.std.proofs.Common.{◌≡◌, ℕ, ◌+◌, List, [], ◌∷◌, ◌++◌, get_or, sym, ap, ◌∙◌, arith, false, Less, Greater}
 use Rattle.std.specs.List.Sorted.{IsSortedBy}
 use Rattle.std.specs.Ordering.{is_lt, ordering_reverse}
 use Rattle.std.specs.Cmp.Lexicographic.{nat_list_cmp_total}
 use Rattle.std.proofs.lemmas.List.Sums.{fold_push}
 use Rattle.steno_rules.specs.Outlines.{outline_cmp, AreRising}
 use Rattle.steno_rules.specs.Nodes.{insert_new}
+use Rattle.steno_rules.proofs.Lists.{pairs_tail}
 use Rattle.dict_json.specs.Dictionaries.{in_order}
 
 -- no outline is above itself
@@ -14,6 +15,7 @@ not_above_self x h =
     let wrong : Greater ≡ Less = sym h ∙ nat_list_cmp_total.antisymm x x ∙ ap ordering_reverse h in
     cc
 
+-- what is above isn't below
 not_less_turned : (x y : List ℕ) → outline_cmp x y ≡ Less → is_lt (outline_cmp y x) ≡ false
 not_less_turned x y h = ap is_lt (nat_list_cmp_total.antisymm y x ∙ ap ordering_reverse h)
 
@@ -27,7 +29,8 @@ first_below x y ys rising = rising 0 1 [] (omega arith) (omega arith)
 
 -- all but the first rise too
 pub rising_tail : (x : List ℕ) (xs : List (List ℕ)) → AreRising (x ∷ xs) → AreRising xs
-rising_tail x xs rising = λ i j d l below. rising (suc i) (suc j) d (omega arith) (omega arith)
+rising_tail x xs rising = pairs_tail (λ a b. outline_cmp a b ≡ Less) x xs rising
 
+-- one more outline is inserted
 pub in_order_push : (xs : List (List ℕ)) (x : List ℕ) → in_order (xs ++ x ∷ []) ≡ insert_new (in_order xs) x
 in_order_push xs x = fold_push insert_new [] xs x

@@ -4,6 +4,7 @@ use Rattle.std.specs.List.Sorted.{IsPermutation, IsStableByKey, ties}
 use Rattle.std.specs.Ordering.{is_lt, ordering_reverse}
 use Rattle.std.specs.Cmp.Lexicographic.{pointwise, nat_list_cmp_total}
 use Rattle.std.proofs.lemmas.Map.Text.{is_eq-slice_cmp}
+use Rattle.std.proofs.lemmas.List.Elements.{filter_agree}
 use Rattle.std.proofs.lemmas.List.Sorted.{IsPermutation-map, IsPermutation-sym, Contains-permutation, list_any-IsPermutation}
 use Rattle.steno_rules.specs.Outlines.{outline_cmp}
 use Rattle.steno_rules.proofs.Rising.{rising_same}
@@ -15,10 +16,12 @@ use Rattle.dict_json.proofs.InOrder.{in_order-rising, in_order-Contains}
 use Rattle.dict_stack.proofs.ColumnLemmas.{map_same}
 
 module _ {X : Type 0} where
+  -- the first element, if there is one
   first_of : List X → Option X
   first_of [] = None
   first_of (x ∷ xs) = Some x
 
+  -- what is found is the first that passes
   find_filter : (p : X → Bool) (xs : List X) → find p xs ≡ first_of (filter p xs)
   unfolding first_of
   find_filter p [] = refl
@@ -28,14 +31,11 @@ module _ {X : Type 0} where
       by true rest = refl
       by false rest = rest
 
-  filter_same : (p q : X → Bool) (xs : List X) → ((x : X) → p x ≡ q x) → filter p xs ≡ filter q xs
-  filter_same p q [] same = refl
-  filter_same p q (x ∷ xs) same = ap (λ b. cond b (x ∷ filter p xs) (filter p xs)) (same x) ∙ ap (λ l. cond (q x) (x ∷ l) l) (filter_same p q xs same)
-
 -- a candidate with this outline
 abbrev any_at : List ℕ → Candidate
 any_at x = candidate 0 false (record { outline = x; text = [] })
 
+-- neither of two outlines is below the other just where they are one
 tie_at : (x o : List ℕ) → (not (is_lt (outline_cmp x o)) && not (is_lt (outline_cmp o x))) ≡ pointwise nat_eq o x
 tie_at x o = ap (λ r. not (is_lt r) && not (is_lt (outline_cmp o x))) (nat_list_cmp_total.antisymm x o) ∙ equal (outline_cmp o x) ∙ is_eq-slice_cmp o x
   where
@@ -44,15 +44,17 @@ tie_at x o = ap (λ r. not (is_lt r) && not (is_lt (outline_cmp o x))) (nat_list
     equal Equal = refl
     equal Greater = refl
 
+-- a stable sort leaves the first candidate with an outline the first
 first_stays : (cs sorted : List Candidate) (x : List ℕ) → IsStableByKey candidate_outline outline_cmp cs sorted → find (spells x) sorted ≡ find (spells x) cs
 first_stays cs sorted x stable =
     find_filter (spells x) sorted
-    ∙ ap first_of (sym (filter_same (ties (λ a b. is_lt (outline_cmp (candidate_outline a) (candidate_outline b))) (any_at x)) (spells x) sorted (λ c. tie_at x (candidate_outline c)))
+    ∙ ap first_of (sym (filter_agree (ties (λ a b. is_lt (outline_cmp (candidate_outline a) (candidate_outline b))) (any_at x)) (spells x) (λ c. tie_at x (candidate_outline c)) sorted)
     ∙ stable (any_at x)
-    ∙ filter_same (ties (λ a b. is_lt (outline_cmp (candidate_outline a) (candidate_outline b))) (any_at x)) (spells x) cs (λ c. tie_at x (candidate_outline c)))
+    ∙ filter_agree (ties (λ a b. is_lt (outline_cmp (candidate_outline a) (candidate_outline b))) (any_at x)) (spells x) (λ c. tie_at x (candidate_outline c)) cs)
     ∙ sym (find_filter (spells x) cs)
 
 module _ {A : Type 0} where
+  -- so all say the same first
   said_same : (f : Candidate → A) (otherwise : A) (cs sorted : List Candidate) → IsStableByKey candidate_outline outline_cmp cs sorted → (xs : List (List ℕ)) →
       map (said_first f otherwise sorted) xs ≡ map (said_first f otherwise cs) xs
   said_same f otherwise cs sorted stable xs =
@@ -65,6 +67,7 @@ in_order_same xs ys same = rising_same outline_cmp nat_list_cmp_total (in_order 
   λ h. (in_order-Contains xs z).1 ((same z).1 ((in_order-Contains ys z).0 h)),
 ))
 
+-- The sorted candidates have the same outlines.
 pub ordered_same : (cs sorted : List Candidate) → IsPermutation cs sorted → in_order (map candidate_outline sorted) ≡ in_order (map candidate_outline cs)
 ordered_same cs sorted moved =
     let outlines : IsPermutation (map candidate_outline cs) (map candidate_outline sorted) = IsPermutation-map candidate_outline cs sorted moved in

@@ -10,6 +10,7 @@ use Rattle.dict_json.specs.Dictionaries.{Entry, DictionaryView, outlines_of, has
 use Rattle.dict_stack.specs.Stacks.{dictionary_has, first_text, first_place, is_word}
 use Rattle.dict_stack.specs.Candidates.{candidate, candidates_from, candidate_outline, spells, said_first, some_word}
 
+-- candidates of one dictionary have its entries' outlines
 entries_outlines : (place : ℕ) (w : Bool) (entries : List Entry) → map candidate_outline (map (candidate place w) entries) ≡ outlines_of entries
 entries_outlines place w [] = refl
 entries_outlines place w (e ∷ entries) = ap (λ l. e.outline ∷ l) (entries_outlines place w entries)
@@ -21,6 +22,7 @@ candidates_outlines place (d ∷ ds) kinds =
     map-append candidate_outline (map (candidate place (get_or kinds place false)) d.entries) (candidates_from (suc place) ds kinds)
     ∙ ap₂ (λ a b. a ++ b) (entries_outlines place (get_or kinds place false) d.entries) (candidates_outlines (suc place) ds kinds)
 
+-- the first of them with an outline is made of the first entry with it
 find_candidate : (place : ℕ) (w : Bool) (x : List ℕ) (entries : List Entry) → find (spells x) (map (candidate place w) entries) ≡ option_map (candidate place w) (find (has_outline x) entries)
 find_candidate place w x [] = refl
 find_candidate place w x (e ∷ entries) = by (has_outline x e) (find_candidate place w x entries)
@@ -30,6 +32,7 @@ find_candidate place w x (e ∷ entries) = by (has_outline x e) (find_candidate 
     by true rest = refl
     by false rest = rest
 
+-- some element passes a test where one is found
 find_any : {X : Type 0} (p : X → Bool) (xs : List X) → list_any p xs ≡ is_some (find p xs)
 find_any p [] = refl
 find_any p (x ∷ xs) = by (p x) (find_any p xs)
@@ -38,12 +41,14 @@ find_any p (x ∷ xs) = by (p x) (find_any p xs)
     by true rest = refl
     by false rest = rest
 
+-- the first candidate is one of the first dictionary's, or of the others'
 find_in_all : (place : ℕ) (d : DictionaryView) (ds : List DictionaryView) (kinds : List Bool) (x : List ℕ) →
     find (spells x) (candidates_from place (d ∷ ds) kinds) ≡ option_or (option_map (candidate place (get_or kinds place false)) (find (has_outline x) d.entries)) (find (spells x) (candidates_from (suc place) ds kinds))
 find_in_all place d ds kinds x =
     find-append (spells x) (map (candidate place (get_or kinds place false)) d.entries) (candidates_from (suc place) ds kinds)
     ∙ ap (λ o. option_or o (find (spells x) (candidates_from (suc place) ds kinds))) (find_candidate place (get_or kinds place false) x d.entries)
 
+-- its text is that of the first dictionary that has the outline
 text_found : (place : ℕ) (ds : List DictionaryView) (kinds : List Bool) (x : List ℕ) →
     option_map (λ c. c.entry.text) (find (spells x) (candidates_from place ds kinds))
     ≡ option_and_then (λ d. option_map (λ e. e.text) (find (has_outline x) d.entries)) (find (dictionary_has x) ds)
@@ -64,6 +69,7 @@ text_found place (d ∷ ds) kinds x =
 pub said_text : (ds : List DictionaryView) (kinds : List Bool) (x : List ℕ) → said_first (λ c. c.entry.text) [] (candidates_from 0 ds kinds) x ≡ first_text ds x
 said_text ds kinds x = ap (λ o. unwrap_or o []) (text_found 0 ds kinds x)
 
+-- its place is that of this dictionary
 place_found : (place : ℕ) (ds : List DictionaryView) (kinds : List Bool) (x : List ℕ) →
     option_map (λ c. c.place) (find (spells x) (candidates_from place ds kinds)) ≡ position_from (dictionary_has x) place ds
 place_found place [] kinds x = refl
@@ -78,15 +84,18 @@ place_found place (d ∷ ds) kinds x =
     by None rest = rest
     by (Some e) rest = refl
 
+-- The first candidate with an outline has the place that stands.
 pub said_place : (ds : List DictionaryView) (kinds : List Bool) (x : List ℕ) → said_first (λ c. c.place) 0 (candidates_from 0 ds kinds) x ≡ first_place ds x
 said_place ds kinds x = ap (λ o. unwrap_or o 0) (place_found 0 ds kinds x ∙ sym (position_from-zero (dictionary_has x) ds))
 
+-- candidates of one dictionary are words if its outlines are
 any_flag : (place : ℕ) (w : Bool) (x : List ℕ) (entries : List Entry) → some_word (map (candidate place w) entries) x ≡ (w && list_any (has_outline x) entries)
 any_flag place true x [] = refl
 any_flag place false x [] = refl
 any_flag place true x (e ∷ entries) = ap (λ b. has_outline x e || b) (any_flag place true x entries)
 any_flag place false x (e ∷ entries) = any_flag place false x entries
 
+-- from any place on, some candidate is a word where some dictionary makes it one
 words_found : (place : ℕ) (ds : List DictionaryView) (kinds : List Bool) (x : List ℕ) → place + length ds ≤ length kinds →
     some_word (candidates_from place ds kinds) x ≡ is_word ds (drop place kinds) x
 words_found place [] kinds x within = refl
@@ -95,5 +104,6 @@ words_found place (d ∷ ds) kinds x within =
     ∙ ap₂ (λ a b. a || b) (any_flag place (get_or kinds place false) x d.entries) (words_found (suc place) ds kinds x (omega (arith, within)))
     ∙ ap (λ l. is_word (d ∷ ds) l x) (sym (drop-cons kinds place false (omega (arith, within))))
 
+-- Some candidate with an outline is a word where the outline is one.
 pub some_words : (ds : List DictionaryView) (kinds : List Bool) (x : List ℕ) → length kinds ≡ length ds → some_word (candidates_from 0 ds kinds) x ≡ is_word ds kinds x
 some_words ds kinds x long = words_found 0 ds kinds x (omega (arith, long))

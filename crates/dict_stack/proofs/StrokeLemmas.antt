@@ -6,6 +6,7 @@ use Rattle.std.proofs.lemmas.List.Sums.{fold-append}
 use Rattle.std.proofs.lemmas.List.Folds.{concat-append}
 use Rattle.dict_stack.specs.Appearances.{with_new, strokes_of_all}
 
+-- one more stroke adds at most one
 pub with_new-few : (found : List ℕ) (x : ℕ) → length (with_new found x) ≤ length found + 1
 with_new-few found x = by (list_any (λ y. x == y) found)
   where

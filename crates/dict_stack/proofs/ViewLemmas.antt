@@ -30,6 +30,7 @@ view_of c columns = record {
 }
 
 module _ (ds : List DictionaryView) (kinds : List Bool) (c : Collected) (columns : Columns) (long : length kinds ≡ length ds) (collected : IsCollected ds kinds c) (merged : IsMerged c.candidates.items columns) where
+  -- each column is that of the stack
   outlines : columns.outlines.items ≡ all_outlines ds
   outlines = merged.outlines_are ∙ outlines_stand ds kinds c collected
 
@@ -51,18 +52,22 @@ module _ (ds : List DictionaryView) (kinds : List Bool) (c : Collected) (columns
       ∙ ap₂ (λ l o. map (some_word l) o) collected.candidates_are outlines
       ∙ map_same (some_word (candidates_from 0 ds kinds)) (is_word ds kinds) (all_outlines ds) (λ x has. some_words ds kinds x long)
 
+  -- The parts make the stack.
   pub view_is : view_of c columns ≡ stack_of ds kinds
   view_is = rw (outlines, texts, from, words, collected.skipped_are, collected.folded_total_is) refl
 
+  -- each outline has 1 to 64 strokes
   short : (x : List ℕ) → Contains columns.outlines.items x → IsShort x
   short x has =
       let found = in_map candidate_outline c.candidates.items x ((in_order-Contains (map candidate_outline c.candidates.items) x).0 (subst (λ l. Contains l x) merged.outlines_are has)) in
       subst IsShort found.2 (All-contains (λ e. IsShort (candidate_outline e)) c.candidates.items found.0 collected.are_short found.1)
 
+  -- there is an outline only where there is a dictionary
   some : (x : List ℕ) (dictionaries : List DictionaryView) → Contains (flat_map (λ d. outlines_of d.entries) dictionaries) x → 0 < length dictionaries
   some x [] has = absurd (none_in_nil x has)
   some x (d ∷ dictionaries) has = omega arith
 
+  -- the place is one of a dictionary
   place_within : (x : List ℕ) → Contains (all_outlines ds) x → first_place ds x < length ds
   place_within x has = by (position (dictionary_has x) ds) refl
     where
@@ -70,9 +75,11 @@ module _ (ds : List DictionaryView) (kinds : List Bool) (c : Collected) (columns
       by None is = some x ds ((in_order-Contains (flat_map (λ d. outlines_of d.entries) ds) x).0 has)
       by (Some i) is = (position-Some (dictionary_has x) ds i (record { entries = []; skipped = []; folded = 0 }) is).0
 
+  -- The number of all skipped keys.
   pub total_is : c.skipped_total ≡ sum_by length (map (λ keys. keys.items) c.skipped.items)
   total_is = collected.skipped_total_is ∙ ap (sum_by length) (sym collected.skipped_are)
 
+  -- The parts are what every stack is.
   pub view_stands : length ds ≤ most_dictionaries → length columns.outlines.items ≤ most_entries → IsStack (view_of c columns)
   view_stands few few_entries =
       let count : length (map (λ keys. keys.items) c.skipped.items) ≡ length ds = ap length collected.skipped_are ∙ length-map ds (λ d. d.skipped) in

@@ -1,7 +1,7 @@
 use Rattle.std.proofs.Common.{◌≡◌, length, get_or, false, subst, rules, arith}
 use Rattle.std.proofs.lemmas.Iterator.Consumers.{YieldsList-turn}
 use Rattle.std.proofs.lemmas.Iterator.Adapters.{YieldsList-from_vec}
-use Rattle.dict_stack.proofs.CollectLemmas.{Adds, places, collected_push}
+use Rattle.dict_stack.proofs.CollectLemmas.{AddsDictionary, places, collected_push}
 use Rattle.dict_stack.proofs.candidates.collect.Goals as goal
 
 pub bounds-word_files-len : goal.bounds-word_files-len
@@ -27,7 +27,7 @@ loop-dictionary-preserved c =
     let count = places c.loop-dictionary.yielded c.args.word_files.now c.loop-dictionary.collected c.loop-dictionary.invariant in
     let place : c.len-in-loop-dictionary.result ≡ length c.loop-dictionary.yielded = omega (arith, count, c.len-in-loop-dictionary.ensures) in
     collected_push c.loop-dictionary.yielded c.in-Some.dictionary c.args.word_files.now c.loop-dictionary.collected c.add.new.self c.loop-dictionary.invariant
-    (subst (λ n. Adds c.loop-dictionary.collected c.in-Some.dictionary (get_or c.args.word_files.now n false) c.add.new.self) place (record {
+    (subst (λ n. AddsDictionary c.loop-dictionary.collected c.in-Some.dictionary (get_or c.args.word_files.now n false) c.add.new.self) place (record {
       candidates = adds.candidates;
       skipped = adds.skipped;
       skipped_total = adds.skipped_total;
