@@ -2,11 +2,7 @@
 --     IsStrokesCause text fault    why the text isn't read as strokes
 --     IsOutlineCause text fault    why the text isn't read as an outline
 -- Want of memory says nothing of it.
-<<<<<<< HEAD
 use Rattle.std.specs.Prelude.{ℕ, ◌<◌, ◌≡◌, List, Some, length}
-=======
-use Rattle.std.specs.Prelude.{ℕ, ◌<◌, ◌≡◌, List, Some, length, IfSome}
->>>>>>> 85ed0342d5a7f135e54f2265114172efc793b671
 use Rattle.steno_order.specs.declared.faults.StrokesFault.{StrokesFault}
 use Rattle.steno_order.specs.declared.faults.StrokesFault.TheVariants as strokes
 use Rattle.steno_order.specs.declared.faults.OutlineFault.{OutlineFault}

@@ -15,17 +15,10 @@ mod keys;
 pub mod laws;
 mod pressed;
 mod reading;
-<<<<<<< HEAD
 #[cfg(test)]
 mod tests;
 mod writing;
-=======
-mod writing;
-
-#[cfg(test)]
-mod tests;
->>>>>>> 85ed0342d5a7f135e54f2265114172efc793b671
 
 pub use faults::{OutlineFault, StrokesFault};
-pub use reading::{read_outline, read_stroke, read_strokes};
+pub use reading::{is_readable, read_outline, read_stroke, read_strokes};
 pub use writing::{write_outline, write_stroke};

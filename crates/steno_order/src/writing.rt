@@ -12,7 +12,6 @@ use stroke::Stroke;
 const LONGEST: usize = 24;
 
 /// The keys that have a digit.
-<<<<<<< HEAD
 const WITH_DIGIT: u32 = 1 << 1
     | 1 << 2
     | 1 << 4
@@ -23,10 +22,6 @@ const WITH_DIGIT: u32 = 1 << 1
     | 1 << 15
     | 1 << 17
     | 1 << 19;
-=======
-const WITH_DIGIT: u32 =
-    1 << 1 | 1 << 2 | 1 << 4 | 1 << 6 | 1 << 8 | 1 << 9 | 1 << 13 | 1 << 15 | 1 << 17 | 1 << 19;
->>>>>>> 85ed0342d5a7f135e54f2265114172efc793b671
 
 /// The keys 8 to 12, after which the right side needs no hyphen.
 const MIDDLE: u32 = 0x1f << 8;
