@@ -58,6 +58,7 @@ impl<R: std::rt::Files> Files for RealFiles<'_, R> {
     }
 
     fn take(&mut self, into: &mut [u8]) -> Result<usize, Failed> {
+        // no file is open before a name was given, so that each fault has its name
         if !self.places.has_opened() {
             return Ok(0);
         }

@@ -11,7 +11,7 @@ use std::{env, fs, process};
 fn new_folder(rt: &HostRuntime) -> Result<PathBuf, Fail> {
     let name = format!(in rt.alloc(); "outside-test-{}", process::id(rt.process()))?;
     let folder = env::temp_dir(rt)?.join(rt.alloc(), name.as_str())?;
-    fs::create_dir(rt, folder.as_path())?;
+    fs::create_dir_all(rt, folder.as_path())?;
     Ok(folder)
 }
 
