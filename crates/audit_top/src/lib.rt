@@ -15,3 +15,6 @@ mod words;
 pub use run::run_plain;
 pub use status::Status;
 pub use words::{Command, read_words};
+
+#[cfg(test)]
+mod tests;

@@ -14,3 +14,6 @@ pub use fault_lines::write_fault;
 pub use faults::{FaultLine, Why};
 pub use putting::ReportFault;
 pub use replays::write_replay;
+
+#[cfg(test)]
+mod tests;

@@ -1,0 +1,259 @@
+//! Runs of whole commands over files in memory.
+//!
+//! The tables have a run a line: its words, its files, its status and its output, with `|` between them. Words stand with a space between
+//! two, files as `name=text` and lines of the output with `;` between two.
+
+ghost use Rattle.std.specs.Prelude.{◌<◌, ◌^◌, All, IsTrue, string_len};
+
+use crate::{Status, run_plain};
+use outside::{Files, MemFiles, MemSink, PlainFiles, PlainSink, Sink};
+use std::alloc::{AllocError, Global};
+use std::process::Abort;
+use steno_order::write_stroke;
+use stroke::Stroke;
+
+/// The words of a command line.
+fn words_of(alloc: Global, line: &str) -> Result<Vec<String>, AllocError> {
+    let mut words = Vec::new(alloc);
+    if line.is_empty() {
+        return Ok(words);
+    }
+    for word in line.split(' ') {
+        words.push(String::from_str(alloc, word)?)?;
+    }
+    Ok(words)
+}
+
+/// Whether each word has fewer than 2^32 bytes.
+fn are_short(words: &[String]) -> bool
+    ensures { IsTrue result → All (λ word. string_len word < 2 ^ 32) words.now }
+{
+    words.iter().all(|word| word.len() < 1 << 32)
+}
+
+/// Runs the words.
+fn run(
+    rt: &impl Abort,
+    alloc: Global,
+    line: &str,
+    files: &mut impl Files,
+    out: &mut impl Sink,
+) -> Result<Status, AllocError> {
+    let words = words_of(alloc, line)?;
+    assert!(rt; are_short(&words));
+    Ok(run_plain(alloc, &words, files, out))
+}
+
+/// The files of these names and texts.
+fn files_of(alloc: Global, held: &str) -> Result<MemFiles, AllocError> {
+    let mut files = MemFiles::new(alloc);
+    for file in held.split(';') {
+        if let Some((name, text)) = file.split_once('=') {
+            files.add(name, text.as_bytes())?;
+        }
+    }
+    Ok(files)
+}
+
+/// The lines that stand with `;` between two.
+fn lines_of(alloc: Global, lines: &str) -> Result<String, AllocError> {
+    let mut text = String::new(alloc);
+    for line in lines.split(';') {
+        text.push_str(line)?;
+        text.push('\n')?;
+    }
+    Ok(text)
+}
+
+/// The parts of a row before its first bar and behind it.
+fn cut<'a>(rt: &impl Abort, row: &'a str) -> (&'a str, &'a str) {
+    row.split_once('|').expect(rt, "a bar in each row")
+}
+
+/// Runs a row.
+fn check_row(rt: &impl Abort, alloc: Global, row: &str) -> Result<(), AllocError> {
+    let (line, rest) = cut(rt, row);
+    let (held, rest) = cut(rt, rest);
+    let (code, lines) = cut(rt, rest);
+    let mut files = files_of(alloc, held)?;
+    let mut out = MemSink::new(alloc);
+    let found = run(rt, alloc, line, &mut files, &mut out)?;
+    assert!(rt;
+        code.as_bytes() == [found.code() + b'0'].as_slice(),
+        "{row}"
+    );
+    let want = lines_of(alloc, lines)?;
+    assert!(rt; out.text() == want.as_bytes(), "{row}");
+    Ok(())
+}
+
+/// Runs each row of a table.
+fn check_rows(rt: &impl Abort, alloc: Global, table: &str) -> Result<(), AllocError> {
+    for row in table.lines() {
+        check_row(rt, alloc, row)?;
+    }
+    Ok(())
+}
+
+const REPLAYS: &str =
+    r#"replay S/T/K d|d={"S": "s", "T": "t", "K": "k", "S/T/K": "stick"}|0|S/T/K "stick"
+replay S/T/S/K d|d={"S": "s", "T": "t", "K": "k", "S/T/K": "stick"}|0|S "s";T "t";S "s";K "k"
+replay S/H d|d={"S": "s"}|0|S "s";H untranslated
+replay S d|d={}|0|S untranslated
+replay S/T/K/P/W d|d={"S": "is", "S/T": "ist", "T/K/P": "tkp", "W": "we", "P/W": "pw"}|0|S/T "ist";K untranslated;P/W "pw"
+replay STKPWHRAO*EUFRPBLGTSDZ d|d={}|0|STKPWHRAO*EUFRPBLGTSDZ untranslated
+replay #STKPWHRAO*EUFRPBLGTSDZ d|d={}|0|12K3W4R50*EU6R7B8G9SDZ untranslated
+replay STS/T-/#S/-6 d|d={}|0|ST-S untranslated;T untranslated;1 untranslated;-6 untranslated
+replay KAT/TEL a b|a={"KAT": "cat"};b={"KAT": "feline", "TEL": "tell"}|0|KAT "cat";TEL "tell"
+replay KAT/TEL b a|a={"KAT": "cat"};b={"KAT": "feline", "TEL": "tell"}|0|KAT "feline";TEL "tell"
+replay KAT/TEL match:b a|a={"KAT": "cat"};b={"KAT": "feline", "TEL": "tell"}|0|KAT "feline";TEL "tell"
+replay STS d|d={"-S": "a", "S-S": "b", "STS": "c", "ST-S": "d"}|0|ST-S "c"
+replay 12/TP-PL/-G d|d={"TP-PL": "{.}", "-G": "{^ing}", "12": "12", "*": "undo"}|0|12 "12";TP-PL "{.}";-G "{^ing}"
+replay S d|d={"UE": "x", "-": "y", "": "z", "S//T": "q", "S": "a\"\\\n\u0000"}|0|S "a\"\\\n\x00"
+generate 7 2||0|{;"TPAFRPB/SKWRAOBG/KAER": "w0",;"SAOPL/AOBG": "w1";}
+generate 7 0||0|{}
+generate 18446744073709551615 0||0|{}"#;
+
+const REFUSALS: &str = r#"||2|refused words
+replay|d={}|2|refused words
+replay S|d={}|2|refused words
+replay UE d|d={}|2|refused words
+replay S//T d|d={}|2|refused words
+replay  d|d={}|2|refused words
+replay S match:|d={}|2|refused words
+replay S d match:|d={}|2|refused words
+replays S d|d={}|2|refused words
+audit 1 d|d={}|2|refused words
+generate 7||2|refused words
+generate 07 1||2|refused words
+generate 7 100001||2|refused words
+generate 18446744073709551616 0||2|refused words
+generate 7 +1||2|refused words
+replay S e|d={}|3|failed file 1
+replay S d match:e|d={}|3|failed file 2
+replay S match:match:d|d={}|3|failed file 1
+replay KAT d|d={"KAT": 1}|4|refused file 1 not text "KAT"
+replay KAT d|d=[]|4|refused file 1 not object
+replay KAT d|d={"KAT": "cat"|4|refused file 1 not json
+replay KAT d|d=|4|refused file 1 not json
+replay KAT d a f|d={};a=[];f=|4|refused file 2 not object
+replay KAT d|d={"b": [], "a": null}|4|refused file 1 not text "a"
+replay S match:d|d=7|4|refused file 1 not object
+replay S d d d d d d d d d d d d d d d d d|d={}|5|limit dictionaries 17"#;
+
+#[test]
+fn replays(rt: HostRuntime) -> Result<(), AllocError> {
+    check_rows(&rt, rt.alloc(), REPLAYS)
+}
+
+#[test]
+fn refusals(rt: HostRuntime) -> Result<(), AllocError> {
+    check_rows(&rt, rt.alloc(), REFUSALS)
+}
+
+/// One number in a list.
+fn only(alloc: Global, call: u64) -> Result<Vec<u64>, AllocError> {
+    let mut calls = Vec::new(alloc);
+    calls.push(call)?;
+    Ok(calls)
+}
+
+const THREE: &str = r#"a={"KAT": "cat"};b={"KAT": "feline"};d={"S": "s"}"#;
+
+/// Three dictionaries, each opened, read and read to its end: a call of the files fails.
+fn check_failing_call(
+    rt: &impl Abort,
+    alloc: Global,
+    call: u64,
+    want: &[u8],
+) -> Result<(), AllocError> {
+    let mut files = files_of(alloc, THREE)?;
+    files.fail_at(only(alloc, call)?);
+    let mut out = MemSink::new(alloc);
+    let found = run(rt, alloc, "replay S a match:b d", &mut files, &mut out)?;
+    assert_eq!(rt; found, Status::File, "at {call}");
+    assert!(rt; out.text() == want, "at {call}");
+    Ok(())
+}
+
+#[test]
+fn each_call_of_the_files_fails(rt: HostRuntime) -> Result<(), AllocError> {
+    for call in 0..3 {
+        check_failing_call(&rt, rt.alloc(), call, b"failed file 1\n")?;
+        check_failing_call(&rt, rt.alloc(), call + 3, b"failed file 2\n")?;
+        check_failing_call(&rt, rt.alloc(), call + 6, b"failed file 3\n")?;
+    }
+    Ok(())
+}
+
+#[test]
+fn the_output_fails(rt: HostRuntime) -> Result<(), AllocError> {
+    let mut files = files_of(rt.alloc(), THREE)?;
+    let mut out = MemSink::new(rt.alloc());
+    out.fail_at(only(rt.alloc(), 0)?);
+    let found = run(&rt, rt.alloc(), "replay S d", &mut files, &mut out)?;
+    assert_eq!(rt; found, Status::Output);
+    assert!(rt; out.text().is_empty());
+    Ok(())
+}
+
+#[test]
+fn plain_objects_never_fail(rt: HostRuntime) -> Result<(), AllocError> {
+    let mut files = PlainFiles::new(rt.alloc());
+    files.add("d", b"{\"S\": \"s\"}")?;
+    let mut out = PlainSink::new(rt.alloc());
+    let found = run(&rt, rt.alloc(), "replay S d", &mut files, &mut out)?;
+    assert_eq!(rt; found, Status::Clean);
+    assert!(rt; out.text() == b"S \"s\"\n".as_slice());
+    Ok(())
+}
+
+/// `S`, so many times with a slash between each two.
+fn repeated(alloc: Global, count: usize) -> Result<String, AllocError> {
+    let mut all = String::from_str(alloc, "S")?;
+    for _ in 1..count {
+        all.push_str("/S")?;
+    }
+    Ok(all)
+}
+
+#[test]
+fn the_longest_outline(rt: HostRuntime) -> Result<(), AllocError> {
+    let alloc = rt.alloc();
+    let longest = repeated(alloc, 64)?;
+    let longer = repeated(alloc, 65)?;
+    let fits = format!(in alloc;
+        "replay {longest} d|d={{\"{longest}\": \"x\"}}|0|{longest} \"x\""
+    )?;
+    check_row(&rt, alloc, &fits)?;
+    let over = format!(in alloc;
+        "replay S d|d={{\"{longer}\": \"x\"}}|5|limit outline file 1 \"{longer}\" 65"
+    )?;
+    check_row(&rt, alloc, &over)
+}
+
+/// A row with a dictionary of the strokes with the codes 1 to `count`.
+fn strokes_row(
+    rt: &impl Abort,
+    alloc: Global,
+    count: u32,
+    ends: &str,
+) -> Result<String, AllocError> {
+    let mut row = String::from_str(alloc, "replay S d|d={\"#\":\"x\"")?;
+    for code in 2..=count {
+        row.push_str(",\"")?;
+        write_stroke(Stroke::new(code).expect(rt, "a code of a stroke"), &mut row)?;
+        row.push_str("\":\"x\"")?;
+    }
+    row.push_str("}|")?;
+    row.push_str(ends)?;
+    Ok(row)
+}
+
+#[test]
+fn the_most_entries(rt: HostRuntime) -> Result<(), AllocError> {
+    let most = strokes_row(&rt, rt.alloc(), 1_048_576, "0|S \"x\"")?;
+    check_row(&rt, rt.alloc(), &most)?;
+    let more = strokes_row(&rt, rt.alloc(), 1_048_577, "5|limit entries 1048577")?;
+    check_row(&rt, rt.alloc(), &more)
+}
