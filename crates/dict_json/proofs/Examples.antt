@@ -5,7 +5,7 @@ use Rattle.std.specs.Fmt.{digits}
 use Rattle.serde_json.proofs.OnLiterals.{serde_json_on_literals}
 use Rattle.std.specs.Str.{is_utf8, chars}
 use Rattle.dict_json.specs.Reading.{reading}
-use Rattle.dict_json.specs.Outcomes.{dictionary_outcome, not_json, not_object, not_text, too_long, dictionary}
+use Rattle.dict_json.specs.Outcomes.{dictionary_outcome, not_json, not_object, not_text, dictionary}
 use Rattle.dict_json.specs.Generated.{generated_text, drawn, first_draw}
 
 draw_1 : drawn 8 ≡ 134456

@@ -1,5 +1,5 @@
 -- Outlines in order, each once: they rise, and are the same outlines.
-use Rattle.std.proofs.Common.{ℕ, ◌≡◌, List, [], Contains, ◌↔◌, inl, inr, sym, ap, ◌∙◌, is_eq, Ordering, Equal, Less}
+use Rattle.std.proofs.Common.{ℕ, ◌≡◌, List, [], Contains, ◌↔◌, inl, inr, ap, ◌∙◌, is_eq, Equal, Less}
 use Rattle.std.specs.Cmp.Lexicographic.{bytes_decides, nat_list_cmp_total, texts_ties}
 use Rattle.steno_rules.specs.Outlines.{AreRising, outline_cmp}
 use Rattle.steno_rules.proofs.Lists.{none_in_nil}

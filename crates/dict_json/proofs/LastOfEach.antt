@@ -1,15 +1,15 @@
 -- What is left of reversed entries that were sorted by outline and then freed of the later ones of each outline.
-use Rattle.std.proofs.Common.{◌≡◌, ℕ, List, [], ◌∷◌, map, reverse, refl, sym, ap, ap₂, subst, ◌∙◌, Bool, true, false, true≢false, cond, not, ◌&&◌, nat_eq, Option, Some, None, Contains, All, find, filter, inl, inr, Ordering, Less, Equal, Greater, is_eq, is_lt, ◌↔◌}
+use Rattle.std.proofs.Common.{◌≡◌, ℕ, List, [], ◌∷◌, map, reverse, refl, sym, ap, ap₂, subst, ◌∙◌, Bool, true, false, cond, not, ◌&&◌, nat_eq, Option, Some, None, Contains, find, filter, inl, inr, Ordering, Less, Equal, Greater, is_eq, is_lt}
 use Rattle.std.specs.List.{AllByRecursion, dedup, dedup_from}
 use Rattle.std.specs.List.Sorted.{IsPermutation, IsSortedBy, IsStableBy, IsStrictlySortedBy, ties}
 use Rattle.std.specs.Ordering.{on, ordering_reverse}
-use Rattle.std.specs.Cmp.Lexicographic.{pointwise, bytes_decides, nat_list_cmp_total, nat_list_eq_equiv, texts_ties, on_texts, on_texts_equal}
+use Rattle.std.specs.Cmp.Lexicographic.{pointwise, bytes_decides, nat_list_cmp_total, texts_ties, on_texts, on_texts_equal}
 use Rattle.std.proofs.lemmas.List.Elements.{filter_agree}
 use Rattle.std.proofs.lemmas.List.Kept.{Any-dedup, Contains-from_dedup, IsStrictlySortedBy-dedup}
 use Rattle.std.specs.Cmp.{IsStrictWeakOrder}
 use Rattle.std.proofs.lemmas.List.Sorted.{ranks_by, Contains-permutation, IsPermutation-sym, IsPermutation-trans, IsPermutation-reverse}
 use Rattle.std.specs.Option.{option_map_or}
-use Rattle.steno_rules.specs.Outlines.{outline_cmp, AreRising}
+use Rattle.steno_rules.specs.Outlines.{outline_cmp}
 use Rattle.steno_rules.proofs.Lists.{none_in_nil, in_cons, in_first, in_later, in_map, in_map_of}
 use Rattle.steno_rules.proofs.Rising.{Rises, pairs_of_rises, rising_same}
 use Rattle.dict_json.specs.Dictionaries.{Entry, outlines_of, in_order, has_outline, standing, last_of_each}

@@ -1,17 +1,17 @@
 -- The dictionary of keys none of which is too long.
-use Rattle.std.proofs.Common.{ℕ, zero, suc, ◌≡◌, ◌<◌, ◌≤◌, ◌+◌, ◌-◌, ◌^◌, List, [], ◌∷◌, ◌++◌, length, get_or, map, filter, filter_map, find, fold, refl, sym, ap, ap₂, subst, ◌∙◌, arith, None, Some, Option, Bool, true, false, true≢false, is_none, is_some, option_map, Ordering, Less, Equal, Greater, ◌==◌, not, cond, nat_lt, ◌&&◌, All, Contains}
+use Rattle.std.proofs.Common.{ℕ, suc, ◌≡◌, ◌<◌, ◌≤◌, ◌+◌, ◌-◌, ◌^◌, List, [], ◌∷◌, length, map, filter, filter_map, find, fold, refl, sym, ap, subst, ◌∙◌, arith, None, Some, Option, Bool, true, false, is_none, is_some, option_map, Ordering, Less, Equal, Greater, ◌==◌, not, cond, nat_lt, ◌&&◌, All}
 use Rattle.std.specs.List.{AllByRecursion, cons_option}
 use Rattle.std.proofs.lemmas.List.{length-map, get_or-map}
-use Rattle.std.proofs.lemmas.List.Elements.{Contains-get_or, All-from_recursion, All-contains, All-map}
+use Rattle.std.proofs.lemmas.List.Elements.{Contains-get_or, All-from_recursion, All-contains}
 use Rattle.std.proofs.lemmas.List.Splits.{length-slice_split}
-use Rattle.std.proofs.lemmas.Bool.{ltb-false, ltb-true}
-use Rattle.steno_rules.specs.Nodes.{insert_new, insert_by, by_order}
-use Rattle.steno_rules.specs.Outlines.{AreRising, AreEntries, outline_cmp}
+use Rattle.std.proofs.lemmas.Bool.{ltb-false}
+use Rattle.steno_rules.specs.Nodes.{insert_new, by_order}
+use Rattle.steno_rules.specs.Outlines.{AreRising, outline_cmp}
 use Rattle.steno_order.specs.Keys.{slash}
 use Rattle.steno_order.specs.Reading.{strokes_of}
 use Rattle.steno_order.specs.Spelling.{parts_of}
 use Rattle.dict_json.specs.Reading.{Member, Keyed, keyed}
-use Rattle.dict_json.specs.Dictionaries.{Entry, DictionaryView, IsDictionary, outlines_of, in_order, spelt, standing, last_of_each, skipped_of, dictionary_of}
+use Rattle.dict_json.specs.Dictionaries.{Entry, IsDictionary, outlines_of, in_order, spelt, standing, last_of_each, skipped_of, dictionary_of}
 use Rattle.dict_json.specs.Outcomes.{is_too_long, keys_outcome, members_outcome, dictionary}
 use Rattle.dict_json.specs.Walks.{KeysView, walked}
 use Rattle.dict_json.proofs.InOrder.{in_order-rising, in_order-Contains}

@@ -1,12 +1,12 @@
 -- A generated dictionary has few bytes.
-use Rattle.std.proofs.Common.{ℕ, zero, suc, ◌≡◌, ◌<◌, ◌≤◌, ◌+◌, ◌*◌, ◌%◌, ◌/◌, ◌^◌, List, [], ◌∷◌, ◌++◌, Bool, true, false, cond, length, map, filter, flat_map, refl, sym, ap, ◌∙◌, arith, codes, decimal, nat_le, slice_index_or}
-use Rattle.std.specs.List.{list_all, join_by, join_with_byte, range_with_len}
+use Rattle.std.proofs.Common.{ℕ, zero, suc, ◌≡◌, ◌<◌, ◌≤◌, ◌+◌, ◌*◌, ◌%◌, ◌/◌, ◌^◌, List, [], ◌∷◌, ◌++◌, Bool, true, false, cond, length, map, filter, flat_map, refl, sym, ap, arith, codes, decimal, nat_le, slice_index_or}
+use Rattle.std.specs.List.{list_all, join_with_byte, range_with_len}
 use Rattle.std.proofs.lemmas.Bool.{and_parts, leb-true}
 use Rattle.std.proofs.lemmas.List.{length-append}
 use Rattle.std.proofs.lemmas.List.FromFn.{length-range_with_len}
 use Rattle.std.proofs.lemmas.Fmt.{length-decimal-le}
 use Rattle.steno_order.specs.Keys.{slash}
-use Rattle.dict_json.specs.Generated.{left_texts, vowel_texts, right_texts, after_draws, stroke_number, stroke_text, first_draw, key_text, key_of, is_new, member_text, members_text, generated_text}
+use Rattle.dict_json.specs.Generated.{left_texts, vowel_texts, right_texts, after_draws, stroke_number, stroke_text, first_draw, key_text, key_of, is_new, member_text, generated_text}
 use Rattle.dict_json.proofs.PlainTexts.{key_plain, member_plain}
 
 -- each text of a table has at most 4 bytes

@@ -1,5 +1,5 @@
 -- A generated dictionary reads as one without skipped or folded keys.
-use Rattle.std.proofs.Common.{ℕ, zero, suc, ◌≡◌, ◌<◌, ◌≤◌, ◌+◌, ◌-◌, ◌^◌, List, [], ◌∷◌, ◌++◌, Bool, true, false, cond, not, length, map, filter, filter_map, find, fold, refl, sym, ap, ap₂, subst, ◌∙◌, arith, Some, None, Option, is_none, is_some, option_map, nat_lt, ◌&&◌, Contains, Ordering, Less, Equal, Greater, inl, inr}
+use Rattle.std.proofs.Common.{ℕ, zero, suc, ◌≡◌, ◌<◌, ◌≤◌, ◌+◌, ◌^◌, List, [], ◌∷◌, Bool, true, false, cond, length, map, filter, filter_map, find, fold, refl, sym, ap, subst, ◌∙◌, arith, Some, None, Option, is_none, is_some, option_map, ◌&&◌, Contains, Ordering, Less, Equal, Greater, inl, inr}
 use Rattle.std.specs.List.{AllByRecursion, cons_option, range_with_len}
 use Rattle.std.specs.Ordering.{nat_cmp, match_ordering}
 use Rattle.std.specs.Cmp.Lexicographic.{slice_cmp, nat_list_cmp_total}
@@ -8,14 +8,14 @@ use Rattle.std.proofs.lemmas.List.{length-map}
 use Rattle.serde_json.specs.Data.{Data, string, object, Members, no_members, member, put}
 use Rattle.serde_json.specs.Find.{as_str}
 use Rattle.steno_rules.specs.Outlines.{outline_cmp}
-use Rattle.steno_rules.specs.Nodes.{by_order, insert_new, insert_by}
+use Rattle.steno_rules.specs.Nodes.{by_order, insert_new}
 use Rattle.steno_rules.proofs.Lists.{in_cons, in_first, in_later, in_map, none_in_nil}
 use Rattle.steno_rules.proofs.Rising.{Rises, rises_of_pairs, below_itself}
 use Rattle.steno_order.specs.Reading.{strokes_of}
 use Rattle.steno_order.specs.Spelling.{parts_of}
 use Rattle.steno_order.specs.Canonical.{canonical_text}
 use Rattle.dict_json.specs.Reading.{Member, Keyed, keyed, members_of, reading}
-use Rattle.dict_json.specs.Dictionaries.{Entry, DictionaryView, IsWhole, outlines_of, in_order, spelt, standing, last_of_each, skipped_of, dictionary_of}
+use Rattle.dict_json.specs.Dictionaries.{DictionaryView, IsWhole, outlines_of, in_order, spelt, last_of_each, skipped_of, dictionary_of}
 use Rattle.dict_json.specs.Outcomes.{is_too_long, keys_outcome, members_outcome, object_outcome, value_outcome, dictionary_outcome, dictionary}
 use Rattle.dict_json.specs.Generated.{first_draw, key_of, is_new, generated_text}
 use Rattle.dict_json.proofs.Distinct.{AreDistinct, in_order-length}

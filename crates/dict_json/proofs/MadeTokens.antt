@@ -1,18 +1,18 @@
 -- How the text of a generated dictionary is read.
-use Rattle.std.proofs.Common.{ℕ, zero, suc, ◌≡◌, ◌<◌, ◌≤◌, ◌+◌, ◌^◌, max, List, [], ◌∷◌, ◌++◌, Bool, false, refl, sym, ap, ap₂, ◌∙◌, arith, Some, None, option_and_then, decimal, codes, flat_map, filter, append_assoc, append-nil}
-use Rattle.std.specs.List.{join_by, range_with_len, AllByRecursion}
-use Rattle.json.specs.Token.{Token, begin_object, end_object, key, string}
-use Rattle.json.specs.Lex.{Lexeme, token, comma, colon, string_token, Mode, between, lex, fresh, after_value, begins_colon, punctuate, tokens}
+use Rattle.std.proofs.Common.{ℕ, ◌≡◌, ◌<◌, ◌≤◌, ◌^◌, List, [], ◌∷◌, ◌++◌, false, refl, sym, ap, ap₂, ◌∙◌, arith, Some, option_and_then, decimal, codes, flat_map, append_assoc, append-nil}
+use Rattle.std.specs.List.{join_by, AllByRecursion}
+use Rattle.json.specs.Token.{begin_object, end_object, key, string}
+use Rattle.json.specs.Lex.{Lexeme, token, comma, colon, string_token, between, lex, fresh, after_value, begins_colon, punctuate, tokens}
 use Rattle.json.specs.Json as json
 use Rattle.json.specs.Json.{value, if_last}
 use Rattle.json.specs.Print.{escape}
-use Rattle.json.specs.Tree.{json_tokens, members_tokens, depth, members_depth}
+use Rattle.json.specs.Tree.{json_tokens, members_tokens, members_depth}
 use Rattle.json.proofs.Printed.Strings.{content-escape, lex-escape}
 use Rattle.json.proofs.Printed.Trees.{value-json_tokens}
 use Rattle.serde_json.specs.Data as serde
 use Rattle.serde_json.specs.Data.{put}
 use Rattle.serde_json.specs.Read.{of_json, of_members, read}
-use Rattle.dict_json.specs.Generated.{first_draw, key_of, is_new, member_text, generated_text}
+use Rattle.dict_json.specs.Generated.{first_draw, key_of, member_text}
 use Rattle.dict_json.proofs.PlainTexts.{key_plain, key_unescaped, value_unescaped, member_plain}
 
 -- a text that needs no escape, between its quotes

@@ -1,17 +1,16 @@
 -- How far a walk over the members of an object has come.
-use Rattle.std.proofs.Common.{ℕ, ◌≡◌, ◌<◌, ◌^◌, List, [], ◌∷◌, ◌++◌, length, filter_map, find, refl, sym, ap, subst, ◌∙◌, None, Some, Option, Bool, true, false, is_none, cond, All, string_bytes, String, rules, append_assoc}
+use Rattle.std.proofs.Common.{ℕ, ◌≡◌, List, [], ◌∷◌, ◌++◌, filter_map, find, sym, ap, subst, ◌∙◌, None, Some, true, is_none, cond, All, string_bytes, String, rules, append_assoc}
 use Rattle.std.specs.declared.alloc.Global.{Global}
 use Rattle.std.specs.Option.{option_or}
 use Rattle.std.proofs.lemmas.List.Elements.{filter_map-append, All-head, All-tail}
 use Rattle.std.proofs.lemmas.List.Folds.{find-append}
-use Rattle.serde_json.specs.Data.{Data, string}
-use Rattle.serde_json.specs.Find.{as_str}
-use Rattle.serde_json.specs.View.{view, members_view}
+use Rattle.serde_json.specs.Data.{string}
+use Rattle.serde_json.specs.View.{view}
 use Rattle.serde_json.specs.declared.value.Value as json
 use Rattle.serde_json.specs.declared.value.Value.{Value, the_lemmas}
-use Rattle.dict_json.specs.Reading.{Member, Keyed, keyed, members_of}
+use Rattle.dict_json.specs.Reading.{Member, Keyed, keyed}
 use Rattle.dict_json.specs.Walks.{KeysView, walked}
-use Rattle.dict_json.specs.Outcomes.{Outcome, not_text, members_outcome}
+use Rattle.dict_json.specs.Outcomes.{not_text, members_outcome}
 
 -- the members walked so far are texts, and the walk has collected their keys
 pub record IsWalking (members rest : List Member) (keys : KeysView) : Type 0 where

@@ -1,5 +1,5 @@
 -- How many strokes a text spells, and which texts spell none.
-use Rattle.std.proofs.Common.{ℕ, zero, ◌≡◌, ◌<◌, ◌≤◌, suc, get_or, true≢false, List, [], ◌∷◌, ◌++◌, length, map, refl, sym, ap, ◌∙◌, arith, None, Some, Option, Bool, true, false, is_none, is_some, position, option_map, option_and_then, not, cond, All}
+use Rattle.std.proofs.Common.{ℕ, zero, ◌≡◌, ◌<◌, suc, get_or, true≢false, List, [], ◌∷◌, length, refl, sym, ap, ◌∙◌, arith, None, Some, Option, true, is_none, option_map}
 use Rattle.std.proofs.lemmas.List.{length-map}
 use Rattle.std.proofs.lemmas.List.Quantifiers.{position-Some}
 use Rattle.steno_order.specs.Reading.{stroke_of, all_some, readings, strokes_of, unreadable_part}

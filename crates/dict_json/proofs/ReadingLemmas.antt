@@ -6,7 +6,7 @@ use Rattle.std.specs.Bool.{if◌then◌else◌}
 use Rattle.std.proofs.lemmas.List.Elements.{All-weaker, All-from_recursion}
 use Rattle.serde_json.specs.Data.{Data, Members, object}
 use Rattle.serde_json.specs.Read.{read}
-use Rattle.dict_json.specs.Reading.{Member, members_of, reading}
+use Rattle.dict_json.specs.Reading.{members_of, reading}
 use Rattle.dict_json.proofs.Sizes.{read_few}
 
 pub reading-of_text : (bytes : List ℕ) (d : Data) → IsUtf8 bytes → read bytes ≡ Some d → reading bytes ≡ Some d

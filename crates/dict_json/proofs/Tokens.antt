@@ -1,5 +1,5 @@
 -- The tokens of a text: about as many as it has bytes at most, and no key among them is longer than the text.
-use Rattle.std.proofs.Common.{ℕ, zero, suc, ◌≡◌, ◌<◌, ◌≤◌, ◌+◌, List, [], ◌∷◌, length, refl, sym, ap, subst, ◌∙◌, arith, None, Some, Option, Bool, true, false, cond, ◌&&◌, ◌==◌, ◌-◌, take, drop, nat_eq, nat_lt, option_and_then}
+use Rattle.std.proofs.Common.{ℕ, suc, ◌≤◌, ◌+◌, List, [], ◌∷◌, length, arith, None, Some, Option, Bool, true, false, cond, ◌&&◌, ◌==◌, ◌-◌, take, drop, nat_eq, nat_lt, option_and_then}
 use Rattle.std.proofs.lemmas.List.{length-append}
 use Rattle.std.specs.Char.{encode_utf8}
 use Rattle.std.specs.Prelude.{⊤}

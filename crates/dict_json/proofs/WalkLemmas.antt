@@ -1,14 +1,14 @@
 -- What one more key adds to what a walk has collected.
-use Rattle.std.proofs.Common.{ℕ, ◌≡◌, ◌<◌, ◌≤◌, ◌+◌, List, [], ◌∷◌, ◌++◌, length, map, filter, filter_map, find, refl, sym, ap, ap₂, ◌∙◌, arith, None, Some, Option, Bool, true, false, is_none, is_some, option_map, Result, Ok, Err, OnOk, is_err, true≢false, not, cond, nat_lt, ◌&&◌}
+use Rattle.std.proofs.Common.{ℕ, ◌≡◌, ◌<◌, ◌≤◌, List, [], ◌∷◌, ◌++◌, length, map, filter, filter_map, find, refl, sym, ap, ◌∙◌, arith, None, Some, Option, Bool, true, false, is_none, is_some, option_map, Result, Ok, Err, OnOk, is_err, true≢false, not, cond, nat_lt, ◌&&◌}
 use Rattle.std.specs.Option.{option_or}
-use Rattle.std.proofs.lemmas.List.{append-nil, map-append}
+use Rattle.std.proofs.lemmas.List.{append-nil}
 use Rattle.std.proofs.lemmas.List.Elements.{filter-append, filter_map-append}
 use Rattle.std.proofs.lemmas.List.Folds.{find-append}
 use Rattle.std.proofs.lemmas.Bool.{lt-ltb, le-ltb}
 use Rattle.steno_order.specs.Reading.{strokes_of}
 use Rattle.steno_order.specs.Spelling.{parts_of}
 use Rattle.dict_json.specs.Reading.{Keyed}
-use Rattle.dict_json.specs.Dictionaries.{Entry, spelt, skipped_of}
+use Rattle.dict_json.specs.Dictionaries.{spelt, skipped_of}
 use Rattle.dict_json.specs.Outcomes.{is_too_long}
 use Rattle.dict_json.specs.Walks.{KeysView, walked}
 use Rattle.dict_json.proofs.Parts.{strokes_of-length}

@@ -1,5 +1,5 @@
 -- How far the generator has come.
-use Rattle.std.proofs.Common.{ℕ, zero, suc, ◌≡◌, ◌<◌, ◌+◌, List, [], ◌∷◌, ◌++◌, Bool, true, false, true≢false, cond, not, ◌||◌, filter, flat_map, nat_lt, refl, sym, ap, ap₂, subst, ◌∙◌, arith, codes, append_assoc, append-nil, if◌then◌else◌, bytes_eq}
+use Rattle.std.proofs.Common.{ℕ, zero, suc, ◌≡◌, ◌+◌, List, [], ◌∷◌, ◌++◌, Bool, true, false, true≢false, cond, not, ◌||◌, filter, flat_map, nat_lt, refl, sym, ap, subst, ◌∙◌, arith, codes, append_assoc, append-nil, if◌then◌else◌, bytes_eq}
 use Rattle.std.specs.List.{join_by, list_any, range_with_len}
 use Rattle.std.proofs.lemmas.Bool.{lt-ltb}
 use Rattle.std.proofs.lemmas.Grind.{flat_map-append}

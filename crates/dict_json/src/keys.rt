@@ -9,7 +9,7 @@ use crate::dictionaries::DictEntry;
 use crate::texts::Text;
 use std::alloc::{AllocError, Global};
 use std::marker::Model;
-use steno_order::{read_outline, OutlineFault};
+use steno_order::{OutlineFault, read_outline};
 use stroke::Outline;
 
 /// What the keys so far come to.

@@ -2,7 +2,7 @@
 
 ghost use Rattle.std.specs.Prelude.{◌<◌, ◌^◌, length};
 
-use super::{generated, read_dictionary, Dictionary};
+use super::{Dictionary, generated, read_dictionary};
 use std::alloc::{AllocError, Global};
 use std::fmt::Write;
 use std::process::Abort;
@@ -35,7 +35,10 @@ const FILES: [(&[u8], &str); 24] = [
     (b"{\"KAT\": [\"cat\"]}", "the value of KAT is no text"),
     (b"{\"KAT\": {\"a\": 1}}", "the value of KAT is no text"),
     (b"{\"TEL\": 1, \"KAT\": 2}", "the value of KAT is no text"),
-    (b"{\"UE\": true, \"KAT\": \"cat\"}", "the value of UE is no text"),
+    (
+        b"{\"UE\": true, \"KAT\": \"cat\"}",
+        "the value of UE is no text",
+    ),
     (b"[]", "the value is no object"),
     (b"\"KAT\"", "the value is no object"),
     (b"1", "the value is no object"),
@@ -161,7 +164,11 @@ fn made_of_numbers(rt: HostRuntime) -> Result<(), Fail> {
         Ok(dictionary) => {
             assert_eq!(rt; dictionary.skipped().len(), 0);
             assert_eq!(rt; dictionary.folded(), 0);
-            assert!(rt; dictionary.entries().len() < 4_000, "{} entries", dictionary.entries().len());
+            assert!(rt;
+                dictionary.entries().len() < 4_000,
+                "{} entries",
+                dictionary.entries().len()
+            );
         }
         Err(fault) => assert!(rt; false, "{fault}"),
     }

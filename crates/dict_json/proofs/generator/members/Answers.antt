@@ -1,7 +1,6 @@
 use Rattle.std.proofs.Common.{◌≡◌, ◌++◌, [], subst, sym, ap, ◌∙◌, cond, true, codes, decimal, string_bytes, bytes_eq, nat_lt, if◌then◌else◌}
 use Rattle.std.specs.HashSet.{contains_text}
 use Rattle.std.proofs.lemmas.Map.Text.{hash_set_updates_text}
-
 use Rattle.dict_json.specs.Generated.{drawn, key_of}
 use Rattle.dict_json.proofs.PlainTexts.{IsPlain, key_plain}
 use Rattle.text_rules.specs.Quoted.{escaped, quoted}

@@ -1,4 +1,3 @@
-use Rattle.std.specs.Prelude.{string_bytes}
 use Rattle.serde_json.specs.View.{members_view}
 use Rattle.dict_json.specs.Reading.{members_of}
 use Rattle.dict_json.proofs.Members.{IsWalking}
