@@ -10,7 +10,8 @@ use Rattle.steno_order.specs.Keys.{slash}
 use Rattle.steno_order.specs.Canonical.{canonical, canonical_text}
 use Rattle.steno_order.specs.Reading.{strokes_of}
 use Rattle.steno_order.proofs.Ranges.{tested}
-use Rattle.steno_order.proofs.Lists.{read_canonical_text}
+use Rattle.std.proofs.lemmas.List.Elements.{All-from_recursion}
+use Rattle.steno_order.proofs.ListLaws.{canonical_text-back}
 use Rattle.dict_json.specs.Generated.{after_draws, stroke_number, stroke_text, key_text}
 
 -- the codes of what left keys, vowels and right keys are written as
@@ -56,7 +57,7 @@ texts_are x (k ∷ ks) = ap₂ (λ t ts. t ∷ ts) (code_stroke (after_draws k x
 spells_strokes : (x n m : ℕ) → n ≡ suc m → strokes_of (canonical_text (codes_of x (range_with_len 1 n))) ≡ Some (codes_of x (range_with_len 1 n))
 spells_strokes x n m e =
     subst (λ k. strokes_of (canonical_text (codes_of x (range_with_len 1 k))) ≡ Some (codes_of x (range_with_len 1 k))) (sym e)
-    (read_canonical_text (code_at (after_draws 1 x % 2048)) (codes_of x (range_with_len 2 m)) (strokes_are x (1 ∷ range_with_len 2 m)))
+    (canonical_text-back (codes_of x (1 ∷ range_with_len 2 m)) (omega arith) (All-from_recursion IsStroke (codes_of x (1 ∷ range_with_len 2 m)) (strokes_are x (1 ∷ range_with_len 2 m))))
 
 -- a text that is the canonical one of at most 64 strokes, and spells them
 pub record IsCanonicalKey (name : List ℕ) : Type 0 where

@@ -1,8 +1,8 @@
 -- Setting a key's bit adds its power of two.
-use Rattle.std.proofs.Common.{◌≡◌, ℕ, ◌+◌, ◌*◌, ◌/◌, ◌%◌, ◌^◌, ◌<◌, ◌≤◌, refl, ap, arith, Bool, true, false, ◌∙◌}
+use Rattle.std.proofs.Common.{◌≡◌, ℕ, ◌+◌, ◌*◌, ◌/◌, ◌%◌, ◌^◌, ◌<◌, ap, arith, Bool, true, false, ◌∙◌}
 use Rattle.std.specs.Prelude.{◌||◌, if◌then◌else◌}
 use Rattle.std.specs.Int.{bit_at}
-use Rattle.std.specs.Int.Bits.{bit_or, or_add_and, or_zero_r, bit_and}
+use Rattle.std.specs.Int.Bits.{bit_or, or_add_and, or_zero_r}
 use Rattle.std.proofs.lemmas.Nat.Bits.{and_pow, bit_at_above}
 
 -- what key 0 adds

@@ -1,10 +1,10 @@
 -- Laws of lists of strokes: what they are, how many, where a part spells none, and how long their text is.
 use Rattle.std.proofs.Common.{◌≡◌, ℕ, zero, suc, ◌+◌, ◌*◌, ◌^◌, ◌<◌, ◌≤◌, List, [], ◌∷◌, ◌++◌, map, length, refl, sym, ap, subst, arith, Bool, true, false, cond, true≢false, ◌∙◌}
-use Rattle.std.specs.Prelude.{◌&&◌, All, filter, not, nat_lt, position, Option, Some, None, option_map, option_and_then, if◌then◌else◌}
+use Rattle.std.specs.Prelude.{◌&&◌, All, filter, nat_lt, Option, Some, None, option_map, option_and_then, if◌then◌else◌}
 use Rattle.std.specs.Option.{is_none}
-use Rattle.std.specs.List.{AllZip, AllByRecursion, join_with_byte, position_or_len, range_with_len}
-use Rattle.std.proofs.lemmas.Bool.{lt-ltb, ltb-true, ltb-false}
-use Rattle.std.proofs.lemmas.List.{length-append, length-map}
+use Rattle.std.specs.List.{AllZip, position_or_len, range_with_len}
+use Rattle.std.proofs.lemmas.Bool.{lt-ltb, ltb-true}
+use Rattle.std.proofs.lemmas.List.{length-append}
 use Rattle.std.proofs.lemmas.List.Elements.{All-cons, recursion_from_All}
 use Rattle.text_rules.proofs.Splits.{some_part}
 use Rattle.steno_rules.specs.Outlines.{IsStroke}
@@ -12,7 +12,7 @@ use Rattle.steno_order.specs.declared.pressed.Pressed.{Pressed}
 use Rattle.steno_order.specs.Keys.{has, slash}
 use Rattle.steno_order.specs.Canonical.{keys_from, mark, needs_bar, needs_hyphen, bar_text, hyphen_text, canonical, canonical_text}
 use Rattle.steno_order.specs.Spelling.{Spelling, SpellingOfAll, parts_of}
-use Rattle.steno_order.specs.Reading.{stroke_of, readings, all_some, strokes_of, unreadable_part}
+use Rattle.steno_order.specs.Reading.{readings, all_some, strokes_of, unreadable_part}
 use Rattle.steno_order.specs.Steps.{after, stroke_with, spelt_from}
 use Rattle.steno_order.proofs.Ranges.{both}
 use Rattle.steno_order.proofs.Spellings.{Spelling-stroke}

@@ -1,7 +1,7 @@
 -- Lists of strokes and their texts.
-use Rattle.std.proofs.Common.{◌≡◌, ◌≢◌, ℕ, zero, suc, ◌+◌, ◌^◌, ◌<◌, ◌≤◌, List, [], ◌∷◌, ◌++◌, map, length, refl, sym, ap, subst, arith, Bool, true, false, cond, true≢false, ◌⊎◌, inl, inr, ◌∙◌}
-use Rattle.std.specs.Prelude.{◌&&◌, ◌||◌, ◌==◌, not, Option, Some, None, option_map, option_and_then, if◌then◌else◌}
-use Rattle.std.specs.List.{AllZip, AllByRecursion, slice_split, onto_first, join_with_byte, list_any}
+use Rattle.std.proofs.Common.{◌≡◌, ℕ, List, [], ◌∷◌, ◌++◌, map, refl, sym, ap, subst, arith, Bool, true, false, true≢false, ◌⊎◌, inl, inr, ◌∙◌}
+use Rattle.std.specs.Prelude.{◌||◌, ◌==◌, not, Option, Some, None, option_map, option_and_then}
+use Rattle.std.specs.List.{AllZip, AllByRecursion}
 use Rattle.std.proofs.lemmas.List.Folds.{list_any-append}
 use Rattle.std.proofs.lemmas.Bool.{eqb-true}
 use Rattle.text_rules.specs.Lines.{has_byte}
@@ -87,6 +87,3 @@ each_spells (s ∷ ss) h = (canonical-Spelling s (h.0).0 (h.0).1, each_spells ss
 -- the canonical text of one or more strokes spells them
 pub canonical-SpellingOfAll : (s : ℕ) (ss : List ℕ) → AllByRecursion IsStroke (s ∷ ss) → SpellingOfAll (canonical_text (s ∷ ss)) (s ∷ ss)
 canonical-SpellingOfAll s ss h = subst (λ parts. AllZip Spelling parts (s ∷ ss)) (sym (parts_canonical s ss h)) (each_spells (s ∷ ss) h)
-
-pub read_canonical_text : (s : ℕ) (ss : List ℕ) → AllByRecursion IsStroke (s ∷ ss) → strokes_of (canonical_text (s ∷ ss)) ≡ Some (s ∷ ss)
-read_canonical_text s ss h = SpellingOfAll-strokes (canonical_text (s ∷ ss)) (s ∷ ss) (canonical-SpellingOfAll s ss h)

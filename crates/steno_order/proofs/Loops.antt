@@ -1,15 +1,15 @@
 -- What one turn of the reading loops does.
-use Rattle.std.proofs.Common.{◌≡◌, ℕ, zero, suc, ◌+◌, ◌^◌, ◌<◌, ◌≤◌, List, [], ◌∷◌, length, get_or, take, drop, drop-cons, add-one, refl, sym, ap, subst, arith, Bool, true, false, true≢false, ◌∙◌}
-use Rattle.std.specs.Prelude.{◌&&◌, ◌==◌, nat_lt, ◌-◌, Option, Some, None, MatchOption, SomeIff, option_and_then, if◌then◌else◌}
+use Rattle.std.proofs.Common.{◌≡◌, ℕ, ◌+◌, ◌^◌, ◌<◌, ◌≤◌, List, [], ◌∷◌, length, get_or, take, drop, drop-cons, add-one, refl, sym, ap, arith, Bool, true, false, true≢false, ◌∙◌}
+use Rattle.std.specs.Prelude.{◌&&◌, nat_lt, ◌-◌, Option, Some, None, MatchOption, SomeIff, option_and_then, if◌then◌else◌}
 use Rattle.std.proofs.lemmas.Bool.{lt-ltb, ltb-true, ne_eqb}
 use Rattle.std.proofs.lemmas.List.{drop_all, take_all, length-drop}
 use Rattle.steno_rules.specs.Outlines.{IsStroke}
 use Rattle.steno_order.specs.declared.pressed.Pressed.{Pressed}
 use Rattle.steno_order.specs.Keys.{slash}
-use Rattle.steno_order.specs.Reading.{readings, stroke_of}
+use Rattle.steno_order.specs.Reading.{readings}
 use Rattle.steno_order.specs.Steps.{after, stroke_with, spelt_from, readings_from}
 use Rattle.steno_order.proofs.Ranges.{both}
-use Rattle.steno_order.proofs.Parts.{readings-end, readings-slash, readings-step, readings-none}
+use Rattle.steno_order.proofs.Parts.{readings-slash, readings-step, readings-none}
 
 next_byte : (bytes : List ℕ) (i : ℕ) → i < length bytes → drop i bytes ≡ get_or bytes i 0 ∷ drop (i + 1) bytes
 next_byte bytes i lt = rw (add-one) (drop-cons bytes i 0 lt)

@@ -1,11 +1,10 @@
 -- Reading the parts one after another.
-use Rattle.std.proofs.Common.{◌≡◌, ℕ, List, [], ◌∷◌, refl, sym, ap, Bool, true, false, cond, true≢false, ◌∙◌}
-use Rattle.std.specs.Prelude.{◌==◌, map, Option, Some, None, option_and_then, if◌then◌else◌}
-use Rattle.std.specs.List.{onto_first, slice_split}
-use Rattle.std.proofs.lemmas.Bool.{eqb-true}
+use Rattle.std.proofs.Common.{◌≡◌, ℕ, List, [], ◌∷◌, refl, ap, Bool, true, false, cond, true≢false}
+use Rattle.std.specs.Prelude.{◌==◌, map, Option, Some, None, option_and_then}
+use Rattle.std.specs.List.{onto_first}
 use Rattle.text_rules.proofs.Splits.{some_part}
 use Rattle.steno_order.specs.declared.pressed.Pressed.{Pressed}
-use Rattle.steno_order.specs.Keys.{slash, hyphen}
+use Rattle.steno_order.specs.Keys.{slash}
 use Rattle.steno_order.specs.Spelling.{parts_of}
 use Rattle.steno_order.specs.Reading.{stroke_of, readings}
 use Rattle.steno_order.specs.Steps.{after, stroke_with, spelt_from, each_from, readings_from}
@@ -17,9 +16,6 @@ readings-begin text = by (parts_of text) refl
     by : (parts : List (List ℕ)) → parts_of text ≡ parts → map stroke_of parts ≡ each_from nothing parts
     by [] e = absurd (some_part slash text e)
     by (p ∷ ps) e = ap (λ o. o ∷ map stroke_of ps) (stroke_of-steps p)
-
-pub readings-end : (p : Pressed) → readings_from p [] ≡ stroke_with p.code ∷ []
-readings-end p = refl
 
 pub readings-slash : (p : Pressed) (cs : List ℕ) → readings_from p (slash ∷ cs) ≡ stroke_with p.code ∷ readings cs
 readings-slash p cs = refl

@@ -1,7 +1,7 @@
 -- The relation and the function are one.
-use Rattle.std.proofs.Common.{◌≡◌, ℕ, ◌<◌, List, [], ◌∷◌, ◌++◌, refl, sym, ap, subst, arith, Bool, true, false, true≢false, cond, ◌⊎◌, inl, inr, ◌∙◌, append-nil}
+use Rattle.std.proofs.Common.{◌≡◌, ℕ, ◌<◌, List, [], ◌∷◌, ◌++◌, refl, sym, ap, subst, arith, Bool, true, false, true≢false, ◌⊎◌, inl, inr, ◌∙◌, append-nil}
 use Rattle.std.specs.Prelude.{◌==◌, nat_lt, Option, Some, None, option_and_then, option_map, not, All, if◌then◌else◌}
-use Rattle.std.specs.List.{slice_split, onto_first, join_with_byte, list_all}
+use Rattle.std.specs.List.{join_with_byte, list_all}
 use Rattle.std.proofs.lemmas.List.{map-append}
 use Rattle.std.proofs.lemmas.List.Splits.{join_with_byte-slice_split}
 use Rattle.text_rules.specs.Lines.{parts_between}

@@ -1,6 +1,6 @@
 -- The strokes read so far, with what is left of the text.
-use Rattle.std.proofs.Common.{◌≡◌, ℕ, zero, suc, ◌+◌, ◌<◌, ◌≤◌, List, [], ◌∷◌, ◌++◌, length, take, set, refl, sym, ap, subst, arith, ◌∙◌, append-nil, append_assoc}
-use Rattle.std.specs.Prelude.{IfSome, map, nat_lt, position, Option, Some, None, option_map, if◌then◌else◌}
+use Rattle.std.proofs.Common.{◌≡◌, ℕ, ◌+◌, ◌<◌, ◌≤◌, List, [], ◌∷◌, ◌++◌, length, take, set, refl, sym, ap, arith, ◌∙◌, append-nil, append_assoc}
+use Rattle.std.specs.Prelude.{IfSome, map, position, Option, Some, None, option_map}
 use Rattle.std.specs.Borrow.{Bor}
 use Rattle.std.specs.Option.{is_none}
 use Rattle.std.specs.List.{position_or_len}
@@ -37,6 +37,14 @@ all_some-map (s ∷ ss) = rw (all_some-map ss) refl
 pub all_read : (text strokes : List ℕ) → IsRead text strokes None → strokes_of text ≡ Some strokes
 all_read text strokes h = ap all_some (h.whole ∙ append-nil (map Some strokes)) ∙ all_some-map strokes
 
+all_some-none : (strokes : List ℕ) (others : List (Option ℕ)) → all_some (map Some strokes ++ None ∷ others) ≡ None
+all_some-none [] others = refl
+all_some-none (s ∷ ss) others = rw (all_some-none ss others) refl
+
+-- the next part spells none, so not all do
+pub none_of_all : (text strokes bytes : List ℕ) (others : List (Option ℕ)) → IsRead text strokes (Some bytes) → readings bytes ≡ None ∷ others → strokes_of text ≡ None
+none_of_all text strokes bytes others h next = ap all_some (h.whole ∙ ap (λ r. map Some strokes ++ r) next) ∙ all_some-none strokes others
+
 first_none : (strokes : List ℕ) (others : List (Option ℕ)) → position_or_len is_none (map Some strokes ++ None ∷ others) ≡ length strokes
 first_none [] others = refl
 first_none (s ∷ ss) others = let rest = first_none ss others in omega (arith, rest)
@@ -54,9 +62,6 @@ pub record IsHeld (text places : List ℕ) (parts : ℕ) (rest : Option (List �
   pub read : IsRead text strokes rest
   pub count : length strokes ≡ parts
   pub held : parts ≤ 64 → take parts places ≡ strokes
-
-pub none_held : (text places : List ℕ) → length places ≡ 64 → IsHeld text places 0 (Some text)
-none_held text places size = record { strokes = []; size = size; read = none_read text; count = refl; held = λ le. refl }
 
 pub one_held : (text places bytes : List ℕ) (parts stroke : ℕ) (rest : Option (List ℕ)) → IsHeld text places parts (Some bytes) → readings bytes ≡ Some stroke ∷ readings_left rest → room rest ≤ length bytes → IsHeld text (set places parts stroke) (parts + 1) rest
 one_held text places bytes parts stroke rest h first less =

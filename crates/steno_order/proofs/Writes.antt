@@ -1,7 +1,6 @@
 -- The pressed keys are appended one after another.
-use Rattle.std.proofs.Common.{◌≡◌, ℕ, zero, suc, ◌+◌, ◌-◌, ◌*◌, ◌<◌, ◌≤◌, List, [], ◌∷◌, ◌++◌, map, length, get_or, drop, drop-cons, add-one, refl, sym, ap, subst, arith, Bool, true, false, cond, ◌∙◌, append-nil, append_assoc}
+use Rattle.std.proofs.Common.{◌≡◌, ℕ, suc, ◌+◌, ◌-◌, ◌*◌, ◌<◌, ◌≤◌, List, [], ◌∷◌, ◌++◌, map, length, get_or, drop, drop-cons, add-one, refl, sym, ap, arith, Bool, true, false, cond, ◌∙◌, append-nil, append_assoc}
 use Rattle.std.specs.Prelude.{if◌then◌else◌}
-use Rattle.std.proofs.lemmas.List.{drop_all}
 use Rattle.steno_order.specs.Keys.{has, slash}
 use Rattle.steno_order.specs.Canonical.{keys_from, mark, canonical, canonical_text}
 use Rattle.steno_order.specs.Steps.{others_text}
@@ -36,11 +35,6 @@ one_written code first end key old now more old_len len len' old_room room room'
       kept = omega arith;
     }
 
-pub all_written : (code first end key : ℕ) (old now : List ℕ) (old_len len old_room room : ℕ) → IsWriting code first end key old now old_len len old_room room → end ≤ key → now ≡ old ++ map (mark code) (keys_from code first (end - first))
-all_written code first end key old now old_len len old_room room h le =
-    let none : end - key ≡ 0 = omega arith in
-    sym (append-nil now) ∙ (ap (λ n. now ++ map (mark code) (keys_from code key n)) (sym none) ∙ h.whole)
-
 -- the four parts of a canonical text
 pub four_parts : (old one two three four a b c d : List ℕ) → one ≡ old ++ a → two ≡ one ++ b → three ≡ two ++ c → four ≡ three ++ d → four ≡ old ++ (a ++ (b ++ (c ++ d)))
 four_parts old one two three four a b c d ea eb ec ed =
@@ -63,9 +57,6 @@ one_listed strokes place stroke old now slashed more len len' len'' room room' r
           ∙ (ap (λ l. now ++ others_text l) (sym next) ∙ h.whole));
       fits = omega arith;
     }
-
-pub all_listed : (strokes : List ℕ) (place : ℕ) (old now : List ℕ) (len room : ℕ) → IsListing strokes place old now len room → length strokes ≤ place → now ≡ old ++ others_text strokes
-all_listed strokes place old now len room h le = sym (append-nil now) ∙ (ap (λ l. now ++ others_text l) (sym (drop_all place strokes le)) ∙ h.whole)
 
 others_after : (stroke : ℕ) (strokes : List ℕ) → canonical_text (stroke ∷ strokes) ≡ canonical stroke ++ others_text strokes
 others_after stroke [] = sym (append-nil (canonical stroke))

@@ -2,7 +2,7 @@
 --     IsStrokesCause text fault    why the text isn't read as strokes
 --     IsOutlineCause text fault    why the text isn't read as an outline
 -- Want of memory says nothing of it.
-use Rattle.std.specs.Prelude.{ℕ, ◌<◌, ◌≡◌, List, Some, length, IfSome}
+use Rattle.std.specs.Prelude.{ℕ, ◌<◌, ◌≡◌, List, Some, length}
 use Rattle.steno_order.specs.declared.faults.StrokesFault.{StrokesFault}
 use Rattle.steno_order.specs.declared.faults.StrokesFault.TheVariants as strokes
 use Rattle.steno_order.specs.declared.faults.OutlineFault.{OutlineFault}

@@ -4,7 +4,7 @@
 --     strokes_of text         the strokes, if each part spells one
 --     unreadable_part text    the first part that spells none, counted from 0
 -- The others are the steps to these.
-use Rattle.std.specs.Prelude.{ℕ, List, [], ◌∷◌, ◌++◌, ◌&&◌, ◌==◌, Bool, nat_lt, nat_le, if◌then◌else◌, find, map, position, Option, Some, None, option_map, option_and_then}
+use Rattle.std.specs.Prelude.{ℕ, List, [], ◌∷◌, ◌++◌, ◌&&◌, ◌==◌, nat_lt, nat_le, if◌then◌else◌, find, map, position, Option, Some, None, option_map, option_and_then}
 use Rattle.std.specs.Option.{is_none}
 use Rattle.std.specs.List.{list_all, range_with_len}
 use Rattle.text_rules.specs.Lines.{parts_between}

@@ -9,37 +9,76 @@ pub(crate) const LETTERS: &[u8; 23] = b"#STKPWHRAO*EUFRPBLGTSDZ";
 /// What each key is written with where the number bar is pressed: its digit, or its letter where it has none.
 pub(crate) const NUMBERED: &[u8; 23] = b"#12K3W4R50*EU6R7B8G9SDZ";
 
+/// The set of keys that are written with a character, as a code, for each character from `#` to `Z`.
+static KEYS: [u32; 56] = [
+    1, // #
+    0, // $
+    0, // %
+    0, // &
+    0, // '
+    0, // (
+    0, // )
+    1 << 10, // *
+    0, // +
+    0, // ,
+    0, // -
+    0, // .
+    0, // /
+    1 << 9, // 0
+    1 << 1, // 1
+    1 << 2, // 2
+    1 << 4, // 3
+    1 << 6, // 4
+    1 << 8, // 5
+    1 << 13, // 6
+    1 << 15, // 7
+    1 << 17, // 8
+    1 << 19, // 9
+    0, // :
+    0, // ;
+    0, // <
+    0, // =
+    0, // >
+    0, // ?
+    0, // @
+    1 << 8, // A
+    1 << 16, // B
+    0, // C
+    1 << 21, // D
+    1 << 11, // E
+    1 << 13, // F
+    1 << 18, // G
+    1 << 6, // H
+    0, // I
+    0, // J
+    1 << 3, // K
+    1 << 17, // L
+    0, // M
+    0, // N
+    1 << 9, // O
+    1 << 4 | 1 << 15, // P
+    0, // Q
+    1 << 7 | 1 << 14, // R
+    1 << 1 | 1 << 20, // S
+    1 << 2 | 1 << 19, // T
+    1 << 12, // U
+    0, // V
+    1 << 5, // W
+    0, // X
+    0, // Y
+    1 << 22, // Z
+];
+
 /// The set of keys that are written with a character, as a code.
+///
+/// A table, since a `match` is a jump that no processor foresees.
 fn keys_of(byte: u8) -> u32
     ensures { IsTrue (has_keys byte result) }
 {
-    match byte {
-        b'#' => 1,
-        b'S' => 1 << 1 | 1 << 20,
-        b'1' => 1 << 1,
-        b'T' => 1 << 2 | 1 << 19,
-        b'2' => 1 << 2,
-        b'K' => 1 << 3,
-        b'P' => 1 << 4 | 1 << 15,
-        b'3' => 1 << 4,
-        b'W' => 1 << 5,
-        b'H' | b'4' => 1 << 6,
-        b'R' => 1 << 7 | 1 << 14,
-        b'A' | b'5' => 1 << 8,
-        b'O' | b'0' => 1 << 9,
-        b'*' => 1 << 10,
-        b'E' => 1 << 11,
-        b'U' => 1 << 12,
-        b'F' | b'6' => 1 << 13,
-        b'7' => 1 << 15,
-        b'B' => 1 << 16,
-        b'L' | b'8' => 1 << 17,
-        b'G' => 1 << 18,
-        b'9' => 1 << 19,
-        b'D' => 1 << 21,
-        b'Z' => 1 << 22,
-        _ => 0,
+    if byte < b'#' || byte > b'Z' {
+        return 0;
     }
+    KEYS[usize::from(byte - b'#')]
 }
 
 /// The first key from `next` on that is written with a character.

@@ -15,11 +15,10 @@ mod keys;
 pub mod laws;
 mod pressed;
 mod reading;
-mod writing;
-
 #[cfg(test)]
 mod tests;
+mod writing;
 
 pub use faults::{OutlineFault, StrokesFault};
-pub use reading::{read_outline, read_stroke, read_strokes};
+pub use reading::{is_readable, read_outline, read_stroke, read_strokes};
 pub use writing::{write_outline, write_stroke};

@@ -1,6 +1,6 @@
 //! Reading: a text's characters in one pass, part by part.
 
-ghost use Rattle.std.specs.Prelude.{◌≡◌, ◌+◌, ◌∷◌, ◌<◌, ◌≤◌, ◌^◌, List, ℕ, IfErr, IfOk, IfSome, MatchOption, None, Option, Some, length, option_map, slice_set};
+ghost use Rattle.std.specs.Prelude.{◌≡◌, ◌+◌, ◌∷◌, ◌<◌, ◌≤◌, ◌^◌, List, ℕ, IfErr, IfOk, IfSome, MatchOption, None, Option, Some, is_some, length, option_map, slice_set};
 ghost use Rattle.steno_order.specs.Reading.{readings, stroke_of, strokes_of};
 ghost use Rattle.steno_order.specs.Faults.{IsOutlineCause, IsStrokesCause};
 ghost use Rattle.steno_order.specs.Steps.{readings_left};
@@ -59,6 +59,7 @@ fn read_part(text: &[u8]) -> Option<Part<'_>>
 pub fn read_strokes(alloc: Global, text: &str) -> Result<Vec<Stroke>, StrokesFault>
     requires { length text.now < 2 ^ 32 }
     ensures ok { IfOk result (λ strokes. strokes_of text.now ≡ Some strokes.items) }
+    ensures fits { IfOk result (λ strokes. length strokes.items ≤ length text.now) }
     ensures err { IfErr result (IsStrokesCause text.now) }
 {
     let mut strokes = Vec::new(alloc);
@@ -75,6 +76,20 @@ pub fn read_strokes(alloc: Global, text: &str) -> Result<Vec<Stroke>, StrokesFau
         rest = part.rest;
     }
     Ok(strokes)
+}
+
+/// Whether each part of a text between slashes spells a stroke. It takes no memory.
+pub fn is_readable(text: &str) -> bool
+    ensures { result ≡ is_some (strokes_of text.now) }
+{
+    let mut rest = Some(text.as_bytes());
+    while let Some(bytes) = rest {
+        let Some(part) = read_part(bytes) else {
+            return false;
+        };
+        rest = part.rest;
+    }
+    true
 }
 
 /// The outline that a text spells: as [`read_strokes`], for at most 64 strokes.

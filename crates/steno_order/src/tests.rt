@@ -1,4 +1,7 @@
-use super::{OutlineFault, StrokesFault, read_outline, read_stroke, read_strokes, write_outline, write_stroke};
+use super::{
+    OutlineFault, StrokesFault, read_outline, read_stroke, read_strokes, write_outline,
+    write_stroke,
+};
 use std::test::Fail;
 use stroke::Stroke;
 
@@ -32,9 +35,21 @@ const TEXTS: [(&str, u32, &str); 84] = [
     ("EU-", 1 << 11 | 1 << 12, "EU"),
     ("E-R", 1 << 11 | 1 << 14, "ER"),
     ("-FRPBLGTSDZ", 0x7f_e000, "-FRPBLGTSDZ"),
-    ("STKPWHRAO*EUFRPBLGTSDZ", 0x7f_fffe, "STKPWHRAO*EUFRPBLGTSDZ"),
-    ("#STKPWHRAO*EUFRPBLGTSDZ", 0x7f_ffff, "12K3W4R50*EU6R7B8G9SDZ"),
-    ("12K3W4R50*EU6R7B8G9SDZ", 0x7f_ffff, "12K3W4R50*EU6R7B8G9SDZ"),
+    (
+        "STKPWHRAO*EUFRPBLGTSDZ",
+        0x7f_fffe,
+        "STKPWHRAO*EUFRPBLGTSDZ",
+    ),
+    (
+        "#STKPWHRAO*EUFRPBLGTSDZ",
+        0x7f_ffff,
+        "12K3W4R50*EU6R7B8G9SDZ",
+    ),
+    (
+        "12K3W4R50*EU6R7B8G9SDZ",
+        0x7f_ffff,
+        "12K3W4R50*EU6R7B8G9SDZ",
+    ),
     ("#", 1, "#"),
     ("#-", 1, "#"),
     ("1", 1 | 1 << 1, "1"),
@@ -94,7 +109,11 @@ const TEXTS: [(&str, u32, &str); 84] = [
 fn spellings(rt: HostRuntime) -> Result<(), Fail> {
     let mut written = String::new(rt.alloc());
     for (text, code, canonical) in &TEXTS {
-        assert_eq!(rt; read_stroke(text).map_or(0, |stroke| stroke.code()), *code, "{text}");
+        assert_eq!(rt;
+            read_stroke(text).map_or(0, |stroke| stroke.code()),
+            *code,
+            "{text}"
+        );
         if let Some(stroke) = Stroke::new(*code) {
             written.clear();
             write_stroke(stroke, &mut written)?;
@@ -137,8 +156,14 @@ fn lists(rt: HostRuntime) -> Result<(), Fail> {
 #[test]
 fn refusals(rt: HostRuntime) -> Result<(), Fail> {
     for (text, part) in &[("", 0), ("S//T", 1), ("/S", 0), ("S/", 1), ("S/T/UE", 2)] {
-        assert_eq!(rt; read_strokes(rt.alloc(), text).err(), Some(StrokesFault::Unreadable { part: *part }));
-        assert_eq!(rt; read_outline(rt.alloc(), text).err(), Some(OutlineFault::Unreadable { part: *part }));
+        assert_eq!(rt;
+            read_strokes(rt.alloc(), text).err(),
+            Some(StrokesFault::Unreadable { part: *part })
+        );
+        assert_eq!(rt;
+            read_outline(rt.alloc(), text).err(),
+            Some(OutlineFault::Unreadable { part: *part })
+        );
     }
     let mut long = String::new(rt.alloc());
     for _ in 0..63 {
@@ -150,9 +175,15 @@ fn refusals(rt: HostRuntime) -> Result<(), Fail> {
     long.push_str("/S")?;
     assert_eq!(rt; long.len(), 129);
     assert_eq!(rt; read_strokes(rt.alloc(), &long)?.len(), 65);
-    assert_eq!(rt; read_outline(rt.alloc(), &long).err(), Some(OutlineFault::TooLong { parts: 65 }));
+    assert_eq!(rt;
+        read_outline(rt.alloc(), &long).err(),
+        Some(OutlineFault::TooLong { parts: 65 })
+    );
     long.push_str("/UE")?;
     assert_eq!(rt; long.len(), 132);
-    assert_eq!(rt; read_outline(rt.alloc(), &long).err(), Some(OutlineFault::Unreadable { part: 65 }));
+    assert_eq!(rt;
+        read_outline(rt.alloc(), &long).err(),
+        Some(OutlineFault::Unreadable { part: 65 })
+    );
     Ok(())
 }

@@ -12,8 +12,16 @@ use stroke::Stroke;
 const LONGEST: usize = 24;
 
 /// The keys that have a digit.
-const WITH_DIGIT: u32 =
-    1 << 1 | 1 << 2 | 1 << 4 | 1 << 6 | 1 << 8 | 1 << 9 | 1 << 13 | 1 << 15 | 1 << 17 | 1 << 19;
+const WITH_DIGIT: u32 = 1 << 1
+    | 1 << 2
+    | 1 << 4
+    | 1 << 6
+    | 1 << 8
+    | 1 << 9
+    | 1 << 13
+    | 1 << 15
+    | 1 << 17
+    | 1 << 19;
 
 /// The keys 8 to 12, after which the right side needs no hyphen.
 const MIDDLE: u32 = 0x1f << 8;

@@ -1,6 +1,6 @@
 use Rattle.std.proofs.Common.{◌+◌, subst, sym, ap, ◌∙◌}
 use Rattle.std.specs.Prelude.{Some, option_map}
-use Rattle.steno_order.proofs.StrokesRead.{IsHeld, all_read, none_next, none_held, one_held, less_left}
+use Rattle.steno_order.proofs.StrokesRead.{IsHeld, all_read, none_next, one_held, less_left}
 use Rattle.steno_order.proofs.reading.read_outline.Goals as goal
 
 pub returns-in_default-read_part-clause-err : goal.returns-in_default-read_part-clause-err

@@ -1,0 +1,12 @@
+pub mod OrderLemmas
+pub mod FindLemmas
+pub mod EntryLemmas
+pub mod StrokeLemmas
+pub mod CollectLemmas
+pub mod EndLemmas
+pub mod FirstLemmas
+pub mod ColumnLemmas
+pub mod CountLemmas
+pub mod StableLemmas
+pub mod StackLemmas
+pub mod ViewLemmas

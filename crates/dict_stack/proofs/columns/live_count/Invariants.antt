@@ -1,0 +1,10 @@
+use Rattle.std.proofs.Common.{◌≡◌, ◌≤◌, map, length, take}
+use Rattle.dict_json.specs.Dictionaries.{in_order}
+use Rattle.dict_stack.specs.Candidates.{candidate_outline}
+use Rattle.dict_stack.proofs.columns.live_count.Given as goal
+
+abbrev pub invariant-loop-place : goal.invariant-loop-place
+invariant-loop-place l = record {
+  is : l.count ≡ length (in_order (map candidate_outline (take l.place l.candidates)));
+  few : l.count ≤ l.place;
+}

@@ -1,0 +1,5 @@
+use Rattle.dict_stack.specs.Candidates.{IsMerged}
+use Rattle.dict_stack.proofs.columns.standing.Given as goal
+
+abbrev pub invariant-loop-candidate : goal.invariant-loop-candidate
+invariant-loop-candidate l = IsMerged l.yielded l.columns

@@ -1,0 +1,4 @@
+pub mod Stacks
+pub mod Appearances
+pub mod Faults
+pub mod Candidates

@@ -1,0 +1,198 @@
+//! The stack of dictionaries, the first of which has the highest priority.
+
+ghost use Rattle.std.specs.Prelude.{◌≡◌, ◌<◌, ◌≤◌, ◌+◌, ◌^◌, [], All, length, sum_by, slice_index, slice_index_or, IfOk, IfErr};
+ghost use Rattle.steno_rules.specs.Outlines.{AreEntries, AreWords, number_of, outline_of, words_of};
+ghost use Rattle.dict_stack.specs.Stacks.{stack_of, all_outlines, most_entries, most_dictionaries};
+ghost use Rattle.dict_stack.specs.Appearances.{strokes_of_all, stroke_number_of};
+ghost use Rattle.dict_stack.specs.Faults.{IsCauseOf};
+
+use crate::candidates::{Collected, collect};
+use crate::columns::{Columns, merge};
+use crate::faults::StackFault;
+use crate::stroke_numbers::StrokeNumbers;
+use dict_json::{Dictionary, Text};
+use std::alloc::Global;
+use std::marker::Model;
+use stroke::{Outline, Stroke};
+
+/// Up to sixteen dictionaries as one: the outlines that some dictionary has, in outline order, each with the translation of the
+/// first dictionary that has it.
+///
+/// An entry is named by its place among them, its number. Some dictionaries only translate: an entry is a word where some other
+/// dictionary has it.
+#[derive(Drop)]
+pub struct Stack {
+    outlines: Vec<Outline>,
+    texts: Vec<Text>,
+    from: Vec<u8>,
+    words: Vec<bool>,
+    skipped: Vec<Vec<Text>>,
+    skipped_total: u64,
+    folded_total: u64,
+    strokes: StrokeNumbers,
+}
+
+impl Model for Stack {
+    ghost use Rattle.std.specs.Prelude.{◌≡◌, map, length, sum_by};
+    ghost use Rattle.dict_stack.specs.Stacks.{StackView, IsStack};
+    ghost use Rattle.dict_stack.specs.Appearances.{strokes_of_all};
+
+    ghost Value = { StackView };
+
+    ghost view = { λ s. record { outlines = s.outlines.items; texts = s.texts.items; from = s.from.items; words = s.words.items; skipped = map (λ keys. keys.items) s.skipped.items; folded = s.folded_total } };
+
+    ghost invariant = { λ s. IsStack (record { outlines = s.outlines.items; texts = s.texts.items; from = s.from.items; words = s.words.items; skipped = map (λ keys. keys.items) s.skipped.items; folded = s.folded_total })
+        × (s.skipped_total ≡ sum_by length (map (λ keys. keys.items) s.skipped.items))
+        × (s.strokes ≡ strokes_of_all s.outlines.items) };
+}
+
+impl Stack {
+    /// The stack of dictionaries by falling priority, each of which supplies words where its truth value says so.
+    ///
+    /// Translations and outlines are moved, not copied. The cost is that of merging the dictionaries, and of a look-up in a hash
+    /// table for each stroke. Refused where more than 1,048,576 outlines stand.
+    pub fn new(
+        alloc: Global,
+        dictionaries: Vec<Dictionary>,
+        word_files: Vec<bool>,
+    ) -> Result<Stack, StackFault>
+        requires few { length dictionaries.items ≤ most_dictionaries }
+        requires kinds { length word_files.items ≡ length dictionaries.items }
+        ensures stack { IfOk result (λ stack. stack ≡ stack_of dictionaries.items word_files.items) }
+        ensures few_entries { IfOk result (λ _. length (all_outlines dictionaries.items) ≤ most_entries) }
+        ensures err { IfErr result (IsCauseOf (all_outlines dictionaries.items)) }
+    {
+        let Collected {
+            candidates,
+            skipped,
+            skipped_total,
+            folded_total,
+        } = collect(alloc, dictionaries, &word_files)?;
+        let Columns {
+            outlines,
+            texts,
+            from,
+            words,
+        } = merge(alloc, candidates)?;
+        let strokes = StrokeNumbers::of(alloc, &outlines)?;
+        Ok(Stack {
+            outlines,
+            texts,
+            from,
+            words,
+            skipped,
+            skipped_total,
+            folded_total,
+            strokes,
+        })
+    }
+
+    /// The number of entries.
+    pub fn entry_count(&self) -> u32
+        ensures count { result ≡ length self.now.outlines }
+        ensures few { length self.now.outlines ≤ most_entries }
+    {
+        self.outlines.len() as u32
+    }
+
+    /// The entries, in strictly rising order.
+    pub fn outlines(&self) -> &[Outline]
+        ensures outlines { result.now ≡ self.now.outlines }
+        ensures are_entries { AreEntries self.now.outlines }
+        ensures are_short { All (λ outline. length outline ≤ 64) self.now.outlines }
+        ensures few { length self.now.outlines ≤ most_entries }
+    {
+        self.outlines.as_slice()
+    }
+
+    /// The outline of an entry.
+    pub fn outline(&self, entry: u32) -> &Outline
+        requires { entry < length self.now.outlines }
+        ensures outline { result.now ≡ outline_of self.now.outlines entry }
+    {
+        &self.outlines[entry as usize]
+    }
+
+    /// The translation of an entry, from the first dictionary that has it.
+    pub fn translation(&self, entry: u32) -> &str
+        requires { entry < length self.now.outlines }
+        ensures { result.now ≡ slice_index_or self.now.texts entry [] }
+    {
+        self.texts[entry as usize].as_str()
+    }
+
+    /// The place of the dictionary that an entry's translation is from.
+    pub fn from_dictionary(&self, entry: u32) -> u32
+        requires { entry < length self.now.outlines }
+        ensures place { result ≡ slice_index self.now.from entry }
+        ensures within { result < length self.now.skipped }
+    {
+        u32::from(self.from[entry as usize])
+    }
+
+    /// The number of the entry with these strokes, in a binary search.
+    pub fn find(&self, strokes: &[Stroke]) -> Option<u32>
+        ensures { result ≡ number_of self.now.outlines strokes.now }
+    {
+        match self
+            .outlines
+            .binary_search_by(|outline| outline.strokes().cmp(strokes))
+        {
+            Ok(entry) => Some(entry as u32),
+            Err(_) => None,
+        }
+    }
+
+    /// For each entry whether it is a word.
+    pub fn words(&self) -> &[bool]
+        ensures words { result.now ≡ self.now.words }
+        ensures each { length self.now.words ≡ length self.now.outlines }
+        ensures are_words { AreWords self.now.outlines (words_of self.now.outlines self.now.words) }
+    {
+        self.words.as_slice()
+    }
+
+    /// How many different strokes the entries have.
+    pub fn stroke_count(&self) -> u32
+        ensures { result ≡ length (strokes_of_all self.now.outlines) }
+    {
+        self.strokes.count()
+    }
+
+    /// The place of a stroke among those of the entries in order of first appearance.
+    pub fn stroke_number(&self, stroke: Stroke) -> Option<u32>
+        ensures { result ≡ stroke_number_of (strokes_of_all self.now.outlines) stroke }
+    {
+        self.strokes.number(stroke)
+    }
+
+    /// The number of dictionaries.
+    pub fn dictionary_count(&self) -> u32
+        ensures count { result ≡ length self.now.skipped }
+        ensures few { length self.now.skipped ≤ most_dictionaries }
+    {
+        self.skipped.len() as u32
+    }
+
+    /// The keys that were skipped in the dictionary at a place, in order of bytes.
+    pub fn skipped(&self, dictionary: u32) -> &[Text]
+        requires { dictionary < length self.now.skipped }
+        ensures { result.now ≡ slice_index_or self.now.skipped dictionary [] }
+    {
+        self.skipped[dictionary as usize].as_slice()
+    }
+
+    /// The number of skipped keys of all dictionaries.
+    pub fn skipped_total(&self) -> u64
+        ensures { result ≡ sum_by length self.now.skipped }
+    {
+        self.skipped_total
+    }
+
+    /// The number of folded keys of all dictionaries.
+    pub fn folded_total(&self) -> u64
+        ensures { result ≡ self.now.folded }
+    {
+        self.folded_total
+    }
+}

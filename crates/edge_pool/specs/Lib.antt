@@ -1,0 +1,4 @@
+pub mod Classes
+pub mod Pools
+pub mod Cuts
+pub mod Runs

@@ -1,0 +1,4 @@
+pub mod ReadTurns
+pub mod Known
+pub mod Extended
+pub mod Lists

@@ -1,0 +1,14 @@
+pub mod Places
+pub mod Members
+pub mod Sums
+pub mod Rounds
+pub mod Noted
+pub mod Searches
+pub mod OneSearch
+pub mod Moves
+pub mod Sorting
+pub mod Enabled
+pub mod Schedules
+pub mod HandMoves
+pub mod Steps
+pub mod Samples

@@ -1,0 +1,8 @@
+use Rattle.std.proofs.Common.{◌≡◌}
+use Rattle.round_core.proofs.tests.drive.Given as goal
+
+abbrev pub invariant-loop-event : goal.invariant-loop-event
+invariant-loop-event l = l.machine.lists ≡ l.fn.machine.lists
+
+abbrev pub invariant-loop-i : goal.invariant-loop-i
+invariant-loop-i l = l.machine.lists ≡ l.fn.machine.lists
