@@ -6,8 +6,10 @@ use Rattle.std.specs.Bool.{if◌then◌else◌}
 use Rattle.std.proofs.lemmas.List.Elements.{All-weaker, All-from_recursion}
 use Rattle.serde_json.specs.Data.{Data, Members, object}
 use Rattle.serde_json.specs.Read.{read}
-use Rattle.dict_json.specs.Reading.{members_of, reading}
-use Rattle.dict_json.proofs.Sizes.{read_few}
+use Rattle.dict_json.specs.Reading.{AreInOrder, names_of, members_of, reading}
+use Rattle.steno_rules.proofs.Rising.{pairs_of_rises}
+use Rattle.dict_json.proofs.KeyOrder.{Before, read_rises}
+use Rattle.dict_json.proofs.ObjectSizes.{read_few}
 
 pub reading-of_text : (bytes : List ℕ) (d : Data) → IsUtf8 bytes → read bytes ≡ Some d → reading bytes ≡ Some d
 unfolding reading
@@ -37,3 +39,6 @@ few_members bytes ms small e = omega (arith, (read_few bytes ms (read-of_reading
 pub short_names : (bytes : List ℕ) (ms : Members) → length bytes < 2 ^ 32 → reading bytes ≡ Some (object ms) → All (λ m. length m.name < 2 ^ 32) (members_of ms)
 short_names bytes ms small e = All-weaker (λ m. length m.name ≤ length bytes) (λ m. length m.name < 2 ^ 32) (λ m h. omega (arith, h, small)) (members_of ms)
     (All-from_recursion (λ m. length m.name ≤ length bytes) (members_of ms) (read_few bytes ms (read-of_reading bytes (object ms) e)).0)
+
+pub names_in_order : (bytes : List ℕ) (ms : Members) → reading bytes ≡ Some (object ms) → AreInOrder (names_of ms)
+names_in_order bytes ms e = pairs_of_rises Before (names_of ms) (read_rises bytes ms (read-of_reading bytes (object ms) e))

@@ -8,7 +8,7 @@ use Rattle.std.specs.Cmp.Lexicographic.{pointwise}
 use Rattle.steno_rules.specs.Nodes.{insert_new}
 use Rattle.steno_rules.specs.Outlines.{AreEntries}
 use Rattle.steno_order.specs.Reading.{strokes_of}
-use Rattle.dict_json.specs.Reading.{Keyed}
+use Rattle.dict_json.specs.Reading.{Keyed, AreInOrder}
 
 -- an outline and its text
 pub record Entry : Type 0 where
@@ -53,10 +53,12 @@ skipped_of pairs = map (λ p. p.key) (filter (λ p. is_none (strokes_of p.key)) 
 abbrev pub dictionary_of : List Keyed → DictionaryView
 dictionary_of pairs = record { entries = last_of_each (spelt pairs); skipped = skipped_of pairs; folded = length (spelt pairs) - length (last_of_each (spelt pairs)) }
 
--- the entries are in strictly rising order, none of them empty or longer than 64 strokes, and all numbers are below 2^32
+-- the entries are in strictly rising order, none of them empty or longer than 64 strokes; the skipped keys are in order of
+-- their bytes; and all numbers are below 2^32
 pub record IsDictionary (d : DictionaryView) : Type 0 where
   pub are_entries : AreEntries (outlines_of d.entries)
   pub are_short : All (λ e. length e.outline ≤ 64) d.entries
+  pub skipped_rise : AreInOrder d.skipped
   pub few_entries : length d.entries < 2 ^ 32
   pub few_keys : d.folded + length d.skipped < 2 ^ 32
 

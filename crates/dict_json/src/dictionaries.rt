@@ -3,6 +3,7 @@
 ghost use Rattle.std.specs.Prelude.{◌≡◌, ◌<◌, ◌≤◌, ◌+◌, ◌^◌, length, All};
 ghost use Rattle.steno_rules.specs.Outlines.{AreEntries};
 ghost use Rattle.dict_json.specs.Dictionaries.{IsDictionary, outlines_of};
+ghost use Rattle.dict_json.specs.Reading.{AreInOrder};
 
 use crate::texts::Text;
 use std::marker::Model;
@@ -105,6 +106,7 @@ impl Dictionary {
     /// The skipped keys, in order of their bytes.
     pub fn skipped(&self) -> &[Text]
         ensures skipped { result.now ≡ self.now.skipped }
+        ensures rising { AreInOrder self.now.skipped }
         ensures few { self.now.folded + length self.now.skipped < 2 ^ 32 }
     {
         self.skipped.as_slice()
@@ -125,6 +127,7 @@ impl Dictionary {
         ensures folded { result.2 ≡ self.folded }
         ensures are_entries { AreEntries (outlines_of self.entries) }
         ensures are_short { All (λ e. length e.outline ≤ 64) self.entries }
+        ensures skipped_rise { AreInOrder self.skipped }
         ensures few_entries { length self.entries < 2 ^ 32 }
         ensures few_keys { self.folded + length self.skipped < 2 ^ 32 }
     {

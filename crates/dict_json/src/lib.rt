@@ -9,6 +9,7 @@ mod dictionaries;
 mod faults;
 mod generator;
 mod keys;
+pub mod laws;
 mod order;
 mod reading;
 #[cfg(test)]

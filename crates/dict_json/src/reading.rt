@@ -2,7 +2,7 @@
 
 ghost use Rattle.std.specs.Prelude.{◌≡◌, ◌<◌, ◌^◌, All, None, Some, length, filter_map, find, is_none, IfOk, IfErr};
 ghost use Rattle.serde_json.specs.View.{view, members_view};
-ghost use Rattle.dict_json.specs.Reading.{keyed, members_of, reading};
+ghost use Rattle.dict_json.specs.Reading.{AreInOrder, keyed, members_of, names_of, reading};
 ghost use Rattle.dict_json.specs.Outcomes.{dictionary, dictionary_outcome, object_outcome, value_outcome};
 ghost use Rattle.dict_json.specs.Faults.{IsCauseOf};
 ghost use Rattle.dict_json.specs.Walks.{walked};
@@ -54,6 +54,7 @@ fn walk(alloc: Global, map: Map<String, Value>) -> Result<Keys, DictFault>
 fn read_object(alloc: Global, map: Map<String, Value>) -> Result<Dictionary, DictFault>
     requires few { length (members_of (members_view map.entries)) < 2 ^ 32 }
     requires short { All (λ m. length m.name < 2 ^ 32) (members_of (members_view map.entries)) }
+    requires ordered { AreInOrder (names_of (members_view map.entries)) }
     ensures ok { IfOk result (λ d. object_outcome (Some (members_view map.entries)) ≡ dictionary d) }
     ensures err { IfErr result (IsCauseOf (object_outcome (Some (members_view map.entries)))) }
 {

@@ -3,8 +3,8 @@ use Rattle.std.specs.Str.{IsUtf8}
 use Rattle.std.proofs.lemmas.Str.{IsUtf8-string_bytes}
 use Rattle.dict_json.specs.Generated.{generated_text}
 use Rattle.dict_json.specs.Outcomes.{dictionary_outcome}
-use Rattle.dict_json.proofs.MadeReads.{generated_whole}
-use Rattle.dict_json.proofs.MadeLengths.{generated_few}
+use Rattle.dict_json.proofs.GeneratedReads.{generated_whole}
+use Rattle.dict_json.proofs.GeneratedLengths.{generated_few}
 use Rattle.dict_json.proofs.generator.generated.Goals as goal
 
 pub returns : goal.returns

@@ -4,7 +4,7 @@ use Rattle.std.proofs.lemmas.Map.Text.{hash_set_updates_text}
 use Rattle.dict_json.specs.Generated.{drawn, key_of}
 use Rattle.dict_json.proofs.PlainTexts.{IsPlain, key_plain}
 use Rattle.text_rules.specs.Quoted.{escaped, quoted}
-use Rattle.dict_json.proofs.Writing.{key_here, writing_new, writing_known, next_entry}
+use Rattle.dict_json.proofs.WritingLemmas.{key_here, writing_new, writing_known, next_entry}
 use Rattle.dict_json.proofs.generator.members.Goals as goal
 
 pub push_member-requires : goal.push_member-requires

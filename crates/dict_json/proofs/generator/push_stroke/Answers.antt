@@ -1,6 +1,6 @@
 use Rattle.std.proofs.Common.{[], ◌≡◌, ◌++◌, ◌∙◌, ap, ap₂, ◌%◌, ◌/◌, slice_index_or, string_bytes}
 use Rattle.dict_json.specs.Generated.{left_texts, vowel_texts, right_texts}
-use Rattle.dict_json.proofs.Draws.{pushed}
+use Rattle.dict_json.proofs.DrawLemmas.{pushed}
 use Rattle.dict_json.proofs.generator.push_stroke.Goals as goal
 
 pub returns : goal.returns

@@ -1,4 +1,4 @@
-use Rattle.dict_json.proofs.Draws.{text_at}
+use Rattle.dict_json.proofs.DrawLemmas.{text_at}
 use Rattle.dict_json.proofs.generator.text_at.Goals as goal
 
 pub returns : goal.returns

@@ -4,7 +4,7 @@ use Rattle.dict_json.specs.Reading.{members_of}
 use Rattle.dict_json.specs.Dictionaries.{DictionaryView, IsDictionary, last_of_each}
 use Rattle.dict_json.specs.Outcomes.{dictionary}
 use Rattle.dict_json.specs.Walks.{KeysView}
-use Rattle.dict_json.proofs.Made.{made_IsDictionary, made_outcome}
+use Rattle.dict_json.proofs.DictionaryLemmas.{made_IsDictionary, made_outcome}
 use Rattle.dict_json.proofs.reading.read_object.Goals as goal
 
 pub new-requires : goal.new-requires
@@ -13,7 +13,7 @@ new-requires c =
     let made : DictionaryView = record { entries = last_of_each k.entries; skipped = k.skipped; folded = length k.entries - length (last_of_each k.entries) } in
     let same : record { entries = c.keep_last_of_each.new.entries.items; skipped = k.skipped; folded = c.in-Ok.folded } ≡ made =
     λ i. record { entries = c.in-Ok.ensures.entries i; skipped = k.skipped; folded = c.in-Ok.ensures.left_out i } in
-    subst IsDictionary (sym same) (made_IsDictionary (members_of (members_view c.args.map.entries)) k c.in_ok-entries.ensures.texts (c.entries.view_is ∙ c.in_ok-entries.ensures.keys) c.in_default.is c.requires.few)
+    subst IsDictionary (sym same) (made_IsDictionary (members_of (members_view c.args.map.entries)) k c.in_ok-entries.ensures.texts (c.entries.view_is ∙ c.in_ok-entries.ensures.keys) c.in_default.is c.requires.few c.requires.ordered)
 
 pub returns-in-Ok-clause-ok : goal.returns-in-Ok-clause-ok
 returns-in-Ok-clause-ok c =

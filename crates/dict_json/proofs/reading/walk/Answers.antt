@@ -3,7 +3,7 @@ use Rattle.std.proofs.lemmas.Map.Iter.{rest_more}
 use Rattle.serde_json.specs.View.{members_view, view}
 use Rattle.dict_json.specs.Reading.{members_of}
 use Rattle.dict_json.specs.Outcomes.{not_text}
-use Rattle.dict_json.proofs.Members.{walking_more, walking_next, walking_refused, view-String, no_text}
+use Rattle.dict_json.proofs.MemberLemmas.{walking_more, walking_next, walking_refused, view-String, no_text}
 use Rattle.dict_json.proofs.WalkLemmas.{when_ok}
 use Rattle.dict_json.proofs.reading.walk.Goals as goal
 

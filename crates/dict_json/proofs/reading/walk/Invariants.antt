@@ -1,6 +1,6 @@
 use Rattle.serde_json.specs.View.{members_view}
 use Rattle.dict_json.specs.Reading.{members_of}
-use Rattle.dict_json.proofs.Members.{IsWalking}
+use Rattle.dict_json.proofs.MemberLemmas.{IsWalking}
 use Rattle.dict_json.proofs.reading.walk.Given as goal
 
 abbrev pub invariant-loop-key : goal.invariant-loop-key

@@ -1,7 +1,7 @@
 use Rattle.std.proofs.Common.{string_bytes, [], ◌∷◌, ◌++◌, ◌∙◌, ◌%◌, sym, ap, nat_lt, if◌then◌else◌}
 use Rattle.steno_order.specs.Keys.{slash}
 use Rattle.dict_json.specs.Generated.{drawn, stroke_text}
-use Rattle.dict_json.proofs.Draws.{key_more}
+use Rattle.dict_json.proofs.DrawLemmas.{key_more}
 use Rattle.dict_json.proofs.generator.Draws.key.Goals as goal
 
 pub loop-place-preserved : goal.loop-place-preserved

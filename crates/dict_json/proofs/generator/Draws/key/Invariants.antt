@@ -1,6 +1,6 @@
 use Rattle.std.specs.Prelude.{string_bytes}
 use Rattle.dict_json.specs.Generated.{drawn}
-use Rattle.dict_json.proofs.Draws.{IsKeyFront}
+use Rattle.dict_json.proofs.DrawLemmas.{IsKeyFront}
 use Rattle.dict_json.proofs.generator.Draws.key.Given as goal
 
 abbrev pub invariant-loop-place : goal.invariant-loop-place

@@ -12,7 +12,7 @@ use Rattle.serde_json.specs.Data as serde
 use Rattle.serde_json.specs.Data.{put}
 use Rattle.serde_json.specs.Read.{number_of, of_json, of_items, of_members, read, max_depth}
 use Rattle.dict_json.specs.Reading.{Member, members_of}
-use Rattle.dict_json.proofs.Tokens.{IsShort, tokens-few}
+use Rattle.dict_json.proofs.TokenSizes.{IsShort, tokens-few}
 
 module _ (size : ℕ) where
   abbrev AllShort : List Token → Type 0

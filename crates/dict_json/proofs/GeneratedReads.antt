@@ -5,43 +5,30 @@ use Rattle.std.specs.Ordering.{nat_cmp, match_ordering}
 use Rattle.std.specs.Cmp.Lexicographic.{slice_cmp, nat_list_cmp_total}
 use Rattle.std.proofs.lemmas.Bool.{le-ltb}
 use Rattle.std.proofs.lemmas.List.{length-map}
-use Rattle.serde_json.specs.Data.{Data, string, object, Members, no_members, member, put}
+use Rattle.serde_json.specs.Data.{string, object, Members, no_members, member, put}
 use Rattle.serde_json.specs.Find.{as_str}
 use Rattle.steno_rules.specs.Outlines.{outline_cmp}
-use Rattle.steno_rules.specs.Nodes.{by_order, insert_new}
+use Rattle.steno_rules.specs.Nodes.{insert_new}
 use Rattle.steno_rules.proofs.Lists.{in_cons, in_first, in_later, in_map, none_in_nil}
 use Rattle.steno_rules.proofs.Rising.{Rises, rises_of_pairs, below_itself}
 use Rattle.steno_order.specs.Reading.{strokes_of}
 use Rattle.steno_order.specs.Spelling.{parts_of}
 use Rattle.steno_order.specs.Canonical.{canonical_text}
-use Rattle.dict_json.specs.Reading.{Member, Keyed, keyed, members_of, reading}
+use Rattle.dict_json.specs.Reading.{Member, Keyed, keyed, members_of, names_of, reading}
 use Rattle.dict_json.specs.Dictionaries.{DictionaryView, IsWhole, outlines_of, in_order, spelt, last_of_each, skipped_of, dictionary_of}
 use Rattle.dict_json.specs.Outcomes.{is_too_long, keys_outcome, members_outcome, object_outcome, value_outcome, dictionary_outcome, dictionary}
 use Rattle.dict_json.specs.Generated.{first_draw, key_of, is_new, generated_text}
 use Rattle.dict_json.proofs.Distinct.{AreDistinct, in_order-length}
 use Rattle.dict_json.proofs.InOrder.{in_order-rising, in_order-Contains}
-use Rattle.dict_json.proofs.MadeKeys.{IsCanonicalKey, key_canonical}
-use Rattle.dict_json.proofs.MadeTokens.{value_of, with_members, read_object}
+use Rattle.dict_json.proofs.GeneratedKeys.{IsCanonicalKey, key_canonical}
+use Rattle.dict_json.proofs.GeneratedTokens.{value_of, with_members, read_object}
+use Rattle.dict_json.proofs.KeyOrder.{put_names}
 use Rattle.dict_json.proofs.Parts.{strokes_of-length}
 use Rattle.dict_json.proofs.ReadingLemmas.{reading-of_text}
 use Rattle.serde_json.proofs.OnLiterals.{serde_json_on_literals}
 use Rattle.std.specs.Str.{IsUtf8, is_utf8, chars}
 
 -- ---- names and values
-
--- the names of members
-abbrev names : Members → List (List ℕ)
-names ms = map (λ m. m.name) (members_of ms)
-
-put_names : (k : List ℕ) (d : Data) (ms : Members) → names (put k d ms) ≡ insert_new (names ms) k
-put_names k d no_members = refl
-put_names k d (member l e ms) = by (slice_cmp nat_cmp k l) (put_names k d ms)
-  where
-    by : (o : Ordering) → names (put k d ms) ≡ insert_new (names ms) k → names (match_ordering o (member k d (member l e ms)) (member l d ms) (member l e (put k d ms)))
-        ≡ by_order o (k ∷ l ∷ names ms) (l ∷ names ms) (l ∷ insert_new (names ms) k)
-    by Less rest = refl
-    by Equal rest = refl
-    by Greater rest = ap (λ ns. l ∷ ns) rest
 
 -- each value is a text
 abbrev AreTexts : List Member → Type 0
@@ -56,7 +43,7 @@ put_texts k text (member l e ms) h = by (slice_cmp nat_cmp k l) (put_texts k tex
     by Equal rest = (refl, h.1)
     by Greater rest = (h.0, rest)
 
-with_names : (start : ℕ) (is : List ℕ) (found : Members) → names (with_members start is found) ≡ fold insert_new (names found) (map (key_of start) is)
+with_names : (start : ℕ) (is : List ℕ) (found : Members) → names_of (with_members start is found) ≡ fold insert_new (names_of found) (map (key_of start) is)
 with_names start [] found = refl
 with_names start (i ∷ is) found = with_names start is (put (key_of start i) (string (value_of i)) found) ∙ ap (λ ns. fold insert_new ns (map (key_of start) is)) (put_names (key_of start i) (string (value_of i)) found)
 
@@ -134,7 +121,7 @@ texts_found (m ∷ ms) h = by (as_str m.value) h.0 (texts_found ms h.1)
     by None e rest = absurd (cc)
     by (Some text) e rest = (rest.0, ap (λ ns. m.name ∷ ns) rest.1)
 
-members_whole : (ms : Members) → AreTexts (members_of ms) → Rises (λ a b. outline_cmp a b ≡ Less) (names ms) → AllByRecursion IsCanonicalKey (names ms) → (d : DictionaryView) × (object_outcome (Some ms) ≡ dictionary d) × IsWhole d
+members_whole : (ms : Members) → AreTexts (members_of ms) → Rises (λ a b. outline_cmp a b ≡ Less) (names_of ms) → AllByRecursion IsCanonicalKey (names_of ms) → (d : DictionaryView) × (object_outcome (Some ms) ≡ dictionary d) × IsWhole d
 members_whole ms texts rising canonical =
     let found = texts_found (members_of ms) texts in
     let pairs = filter_map keyed (members_of ms) in
@@ -145,7 +132,7 @@ members_made : (start : ℕ) (is : List ℕ) → (d : DictionaryView) × (object
 members_made start is =
     let ms = with_members start is no_members in
     let keys = map (key_of start) is in
-    let same : names ms ≡ in_order keys = with_names start is no_members in
+    let same : names_of ms ≡ in_order keys = with_names start is no_members in
     let is_key = λ (name : List ℕ) (has : Contains (in_order keys) name). (let found = in_map (key_of start) is name ((in_order-Contains keys name).0 has) in subst IsCanonicalKey found.2 (key_canonical (first_draw start found.0))) in
     members_whole ms (with_texts start is no_members tt) (subst (Rises (λ a b. outline_cmp a b ≡ Less)) (sym same) (rises_of_pairs (λ a b. outline_cmp a b ≡ Less) (in_order keys) (in_order-rising keys)))
     (subst (AllByRecursion IsCanonicalKey) (sym same) (all_members IsCanonicalKey (in_order keys) is_key))

@@ -10,16 +10,15 @@ use Rattle.steno_rules.specs.Outlines.{AreRising, outline_cmp}
 use Rattle.steno_order.specs.Keys.{slash}
 use Rattle.steno_order.specs.Reading.{strokes_of}
 use Rattle.steno_order.specs.Spelling.{parts_of}
-use Rattle.dict_json.specs.Reading.{Member, Keyed, keyed}
+use Rattle.dict_json.specs.Reading.{Member, Keyed, keyed, AreInOrder}
 use Rattle.dict_json.specs.Dictionaries.{Entry, IsDictionary, outlines_of, in_order, spelt, standing, last_of_each, skipped_of, dictionary_of}
 use Rattle.dict_json.specs.Outcomes.{is_too_long, keys_outcome, members_outcome, dictionary}
 use Rattle.dict_json.specs.Walks.{KeysView, walked}
 use Rattle.dict_json.proofs.InOrder.{in_order-rising, in_order-Contains}
+use Rattle.serde_json.specs.Find.{as_str}
+use Rattle.steno_rules.proofs.Rising.{Rises, rises_of_pairs}
+use Rattle.dict_json.proofs.KeyOrder.{Before, some_in_order}
 use Rattle.dict_json.proofs.Parts.{strokes_of-length}
-
-pub none_of : {X : Type 0} (o : Option X) → ((x : X) → o ≡ Some x → ⊥) → o ≡ None
-none_of None h = refl
-none_of (Some x) h = absurd (h x refl)
 
 -- where none passes, all fail
 fails : {X : Type 0} (p : X → Bool) (x : X) (xs : List X) → find p (x ∷ xs) ≡ None → (p x ≡ false) × (find p xs ≡ None)
@@ -105,16 +104,27 @@ in_order_outlines entries all k d below =
 all_back : (P : List ℕ → Type 0) (es : List Entry) → All P (outlines_of es) → All (λ e. P e.outline) es
 all_back P es all k d below = subst P (get_or-map (λ (e : Entry). e.outline) es k d d.outline below) (all k d.outline (let same : length (outlines_of es) ≡ length es = length-map es _ in omega (arith, same)))
 
-dictionary-IsDictionary : (pairs : List Keyed) → find is_too_long pairs ≡ None → length pairs < 2 ^ 32 → IsDictionary (dictionary_of pairs)
-dictionary-IsDictionary pairs short few =
+dictionary-IsDictionary : (pairs : List Keyed) → find is_too_long pairs ≡ None → Rises Before (map (λ p. p.key) pairs) → length pairs < 2 ^ 32 → IsDictionary (dictionary_of pairs)
+dictionary-IsDictionary pairs short rises few =
     let es = spelt pairs in
     let all = subst (All IsInBounds) (sym (last_of_each-outlines es)) (in_order_outlines es (spelt_outlines pairs short)) in
     record {
       are_entries = record { rising = subst AreRising (sym (last_of_each-outlines es)) (in_order-rising (outlines_of es)); not_empty = λ k d below. (all k d below).0 };
       are_short = λ k d below. (all_back IsInBounds (last_of_each es) all k d below).1;
+      skipped_rise = some_in_order (λ p. is_none (strokes_of p.key)) pairs rises;
       few_entries = omega (arith, last_of_each-length es, counted pairs);
       few_keys = omega (arith, counted pairs);
     }
+
+-- members whose values are texts have their names as keys
+keys_of_texts : (members : List Member) → find (λ m. is_none (keyed m)) members ≡ None → map (λ (p : Keyed). p.key) (filter_map keyed members) ≡ map (λ (m : Member). m.name) members
+keys_of_texts [] e = refl
+keys_of_texts (m ∷ ms) e = let f = fails (λ q. is_none (keyed q)) m ms e in by (as_str m.value) f.0 (keys_of_texts ms f.1)
+  where
+    by : (o : Option (List ℕ)) → is_none {T = Keyed} (option_map (λ text. record { key = m.name; text = text }) o) ≡ false → map (λ (p : Keyed). p.key) (filter_map keyed ms) ≡ map (λ (q : Member). q.name) ms →
+        map (λ (p : Keyed). p.key) (cons_option (option_map (λ text. record { key = m.name; text = text }) o) (filter_map keyed ms)) ≡ m.name ∷ map (λ (q : Member). q.name) ms
+    by None is rest = absurd (cc)
+    by (Some text) is rest = ap (λ ns. m.name ∷ ns) rest
 
 length_texts : (members : List Member) → length (filter_map keyed members) ≤ length members
 length_texts [] = omega arith
@@ -135,8 +145,10 @@ module _ (members : List Member) (k : KeysView) (texts : find (λ m. is_none (ke
   pub made_dictionary : record { entries = last_of_each k.entries; skipped = k.skipped; folded = length k.entries - length (last_of_each k.entries) } ≡ dictionary_of (filter_map keyed members)
   made_dictionary = λ i. record { entries = last_of_each (entries i); skipped = (collected i).skipped; folded = length (entries i) - length (last_of_each (entries i)) }
 
-  pub made_IsDictionary : length members < 2 ^ 32 → IsDictionary (record { entries = last_of_each k.entries; skipped = k.skipped; folded = length k.entries - length (last_of_each k.entries) })
-  made_IsDictionary few = subst IsDictionary (sym made_dictionary) (dictionary-IsDictionary (filter_map keyed members) none_long (omega (arith, few, length_texts members)))
+  pub made_IsDictionary : length members < 2 ^ 32 → AreInOrder (map (λ m. m.name) members) → IsDictionary (record { entries = last_of_each k.entries; skipped = k.skipped; folded = length k.entries - length (last_of_each k.entries) })
+  made_IsDictionary few ordered =
+      let rises = subst (Rises Before) (sym (keys_of_texts members texts)) (rises_of_pairs Before (map (λ m. m.name) members) ordered) in
+      subst IsDictionary (sym made_dictionary) (dictionary-IsDictionary (filter_map keyed members) none_long rises (omega (arith, few, length_texts members)))
 
   pub made_outcome : members_outcome members (find (λ m. is_none (keyed m)) members) ≡ dictionary (record { entries = last_of_each k.entries; skipped = k.skipped; folded = length k.entries - length (last_of_each k.entries) })
   made_outcome = ap (members_outcome members) texts ∙ ap (keys_outcome (filter_map keyed members)) none_long ∙ ap dictionary (sym made_dictionary)

@@ -1,0 +1,11 @@
+//! What the definitions rest on, as functions that do no work: their contracts hold for all values.
+
+ghost use Rattle.std.specs.Prelude.{◌≡◌, ℕ, List, Some};
+ghost use Rattle.serde_json.specs.Data.{Members, object};
+ghost use Rattle.dict_json.specs.Reading.{AreInOrder, names_of, reading};
+
+/// The keys of an object that is read come in order of their bytes, each once. So the first of some of its keys is the least
+/// by bytes, and the last the greatest.
+pub fn keys_in_order()
+    ensures { (bytes : List ℕ) (members : Members) → reading bytes ≡ Some (object members) → AreInOrder (names_of members) }
+{}
