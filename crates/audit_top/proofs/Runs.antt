@@ -4,17 +4,18 @@ use Rattle.std.specs.Option.{unwrap_or}
 use Rattle.std.proofs.lemmas.Bool.Decides.{nat_tests}
 use Rattle.outside.specs.Files.{Held, FilesView, FaultAt}
 use Rattle.outside.specs.Faults.{Rose}
+use Rattle.steno_rules.specs.Nodes.{nodes}
 use Rattle.steno_order.specs.Reading.{strokes_of}
 use Rattle.dict_json.specs.Generated.{generated_text}
 use Rattle.dict_stack.specs.Stacks.{StackView, stack_of, all_outlines, most_entries, most_dictionaries}
 use Rattle.longest_match.specs.declared.pieces.Piece.{Piece}
 use Rattle.longest_match.specs.Pieces.{pieces}
-use Rattle.report.specs.Faults.{Fault, fault_text, not_words, too_many_dictionaries, too_many_entries}
+use Rattle.report.specs.Faults.{Fault, fault_text, not_words, too_many_dictionaries, too_many_entries, too_many_nodes}
 use Rattle.report.specs.Replays.{pieces_text, replay_text}
 use Rattle.report.proofs.SegmentedReplays.{pieces_text-segments}
 use Rattle.audit_top.specs.Commands.{CommandView, replay, generate}
 use Rattle.audit_top.specs.DictFiles.{first_fault, dictionaries_of}
-use Rattle.audit_top.specs.Dues.{Due, Pays, Paid, bytes_of, kinds_of, command_due, fault_due, fault_status, files_due, reads_files, replay_due, stack_due}
+use Rattle.audit_top.specs.Dues.{Due, Pays, Paid, bytes_of, kinds_of, command_due, fault_due, fault_status, files_due, most_nodes, nodes_due, reads_files, replay_due, stack_due}
 use Rattle.audit_top.specs.Owing.{FileFailed, IsCommandStatus, IsFailure, IsOwed, IsReadingFailure, Owes, dictionaries_in}
 use Rattle.audit_top.specs.Loading.{IsCauseOf, fault_of_load}
 use Rattle.audit_top.specs.declared.loading.LoadFault.{LoadFault}
@@ -24,21 +25,37 @@ use Rattle.audit_top.specs.declared.status.Status.TheVariants.{Clean, Conflicts,
 
 -- ---- the stack
 
-entries_fit : (stack : StackView) (strokes : List ℕ) → length stack.outlines ≤ most_entries → stack_due strokes stack ≡ record { status = Clean; text = replay_text stack strokes }
+nodes_fit : (stack : StackView) (strokes : List ℕ) → length (nodes stack.outlines) ≤ most_nodes → nodes_due strokes stack ≡ record { status = Clean; text = replay_text stack strokes }
+nodes_fit stack strokes few = let test : nat_lt most_nodes (length (nodes stack.outlines)) ≡ false = grind (arith, nat_tests) in rw test refl
+
+nodes_over : (stack : StackView) (strokes : List ℕ) → most_nodes < length (nodes stack.outlines) → nodes_due strokes stack ≡ fault_due (too_many_nodes (length (nodes stack.outlines)))
+nodes_over stack strokes many = let test : nat_lt most_nodes (length (nodes stack.outlines)) ≡ true = grind (arith, nat_tests) in rw test refl
+
+entries_fit : (stack : StackView) (strokes : List ℕ) → length stack.outlines ≤ most_entries → stack_due strokes stack ≡ nodes_due strokes stack
 entries_fit stack strokes few = let test : nat_lt most_entries (length stack.outlines) ≡ false = grind (arith, nat_tests) in rw test refl
 
 -- the replay of the pieces that were found is what is owed
-replay-due : (stack : StackView) (outline strokes : List ℕ) (found : List Piece) → length stack.outlines ≤ most_entries → strokes_of outline ≡ Some strokes → found ≡ pieces stack.outlines strokes
-    → record { status = Clean; text = pieces_text stack strokes found } ≡ stack_due (unwrap_or (strokes_of outline) []) stack
+replay-due : (stack : StackView) (outline strokes : List ℕ) (found : List Piece) → length (nodes stack.outlines) ≤ most_nodes → strokes_of outline ≡ Some strokes → found ≡ pieces stack.outlines strokes
+    → record { status = Clean; text = pieces_text stack strokes found } ≡ nodes_due (unwrap_or (strokes_of outline) []) stack
 replay-due stack outline strokes found few read is =
     ap (λ (ps : List Piece). let due : Due = record { status = Clean; text = pieces_text stack strokes ps } in due) is
     ∙ ap (λ (t : List ℕ). let due : Due = record { status = Clean; text = t } in due) (pieces_text-segments stack strokes)
-    ∙ sym (entries_fit stack strokes few)
-    ∙ ap (λ o. stack_due (unwrap_or o []) stack) (sym read)
+    ∙ sym (nodes_fit stack strokes few)
+    ∙ ap (λ o. nodes_due (unwrap_or o []) stack) (sym read)
 
-pub pays-replay : (stack : StackView) (outline strokes : List ℕ) (found : List Piece) (status : Status) (old new : Option (List ℕ)) → length stack.outlines ≤ most_entries → strokes_of outline ≡ Some strokes → found ≡ pieces stack.outlines strokes
-    → Pays (record { status = Clean; text = pieces_text stack strokes found }) status old new → Pays (stack_due (unwrap_or (strokes_of outline) []) stack) status old new
+pub pays-replay : (stack : StackView) (outline strokes : List ℕ) (found : List Piece) (status : Status) (old new : Option (List ℕ)) → length (nodes stack.outlines) ≤ most_nodes → strokes_of outline ≡ Some strokes → found ≡ pieces stack.outlines strokes
+    → Pays (record { status = Clean; text = pieces_text stack strokes found }) status old new → Pays (nodes_due (unwrap_or (strokes_of outline) []) stack) status old new
 pays-replay stack outline strokes found status old new few read is pays = subst (λ (due : Due). Pays due status old new) (replay-due stack outline strokes found few read is) pays
+
+-- entries that are few enough
+pub pays-nodes : (stack : StackView) (strokes : List ℕ) (status : Status) (old new : Option (List ℕ)) → length stack.outlines ≤ most_entries → Pays (nodes_due strokes stack) status old new → Pays (stack_due strokes stack) status old new
+pays-nodes stack strokes status old new few pays = subst (λ (due : Due). Pays due status old new) (sym (entries_fit stack strokes few)) pays
+
+-- entries that have too many beginnings
+pub pays-many_nodes : (stack : StackView) (strokes : List ℕ) (count : ℕ) (status : Status) (old new : Option (List ℕ)) → length stack.outlines ≤ most_entries → most_nodes < length (nodes stack.outlines) → count ≡ length (nodes stack.outlines)
+    → Pays (fault_due (too_many_nodes count)) status old new → Pays (stack_due strokes stack) status old new
+pays-many_nodes stack strokes count status old new few many is pays =
+    subst (λ (due : Due). Pays due status old new) (ap (λ (n : ℕ). fault_due (too_many_nodes n)) is ∙ sym (nodes_over stack strokes many) ∙ sym (entries_fit stack strokes few)) pays
 
 -- ---- what is owed
 

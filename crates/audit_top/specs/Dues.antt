@@ -7,6 +7,7 @@
 use Rattle.std.specs.Prelude.{ℕ, ◌≡◌, ◌⊎◌, List, [], ◌++◌, Bool, true, false, not, nat_lt, if◌then◌else◌, length, map, take, Option, Some, None, unwrap_or}
 use Rattle.std.specs.Io.KnownBytes.{append_known}
 use Rattle.outside.specs.Files.{Held}
+use Rattle.steno_rules.specs.Nodes.{nodes}
 use Rattle.steno_order.specs.Reading.{strokes_of}
 use Rattle.dict_json.specs.Generated.{generated_text}
 use Rattle.dict_stack.specs.Stacks.{StackView, stack_of, most_entries, most_dictionaries}
@@ -42,11 +43,21 @@ fault_status (rejected at why) = Rejected
 abbrev pub fault_due : Fault → Due
 fault_due fault = record { status = fault_status fault; text = fault_text fault }
 
+-- the most nodes of a trie
+abbrev pub most_nodes : ℕ
+most_nodes = 4194304
+
+-- the replay over entries that are few enough, unless they have too many beginnings
+abbrev pub nodes_due : List ℕ → StackView → Due
+nodes_due strokes stack =
+    if nat_lt most_nodes (length (nodes stack.outlines)) then fault_due (too_many_nodes (length (nodes stack.outlines)))
+    else record { status = Clean; text = replay_text stack strokes }
+
 -- the replay over a stack, unless it has too many entries
 abbrev pub stack_due : List ℕ → StackView → Due
 stack_due strokes stack =
     if nat_lt most_entries (length stack.outlines) then fault_due (too_many_entries (length stack.outlines))
-    else record { status = Clean; text = replay_text stack strokes }
+    else nodes_due strokes stack
 
 -- over the stack of the files, unless one of them is refused
 abbrev pub files_due : List ℕ → List Bool → List (List ℕ) → Option Fault → Due

@@ -250,6 +250,35 @@ fn strokes_row(
     Ok(row)
 }
 
+/// A row with so many outlines of 64 strokes, of which each begins with another stroke.
+fn outlines_row(
+    rt: &impl Abort,
+    alloc: Global,
+    count: u32,
+    ends: &str,
+) -> Result<String, AllocError> {
+    let others = repeated(alloc, 63)?;
+    let mut row = String::from_str(alloc, "replay S d|d={")?;
+    for code in 1..=count {
+        row.push_str(if code > 1 { ",\"" } else { "\"" })?;
+        write_stroke(Stroke::new(code).expect(rt, "a code of a stroke"), &mut row)?;
+        row.push('/')?;
+        row.push_str(&others)?;
+        row.push_str("\":\"x\"")?;
+    }
+    row.push_str("}|")?;
+    row.push_str(ends)?;
+    Ok(row)
+}
+
+#[test]
+fn the_most_nodes(rt: HostRuntime) -> Result<(), AllocError> {
+    let most = outlines_row(&rt, rt.alloc(), 65_535, "0|S untranslated")?;
+    check_row(&rt, rt.alloc(), &most)?;
+    let more = outlines_row(&rt, rt.alloc(), 65_536, "5|limit nodes 4194305")?;
+    check_row(&rt, rt.alloc(), &more)
+}
+
 #[test]
 fn the_most_entries(rt: HostRuntime) -> Result<(), AllocError> {
     let most = strokes_row(&rt, rt.alloc(), 1_048_576, "0|S \"x\"")?;

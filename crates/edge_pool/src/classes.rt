@@ -3,10 +3,10 @@ ghost use Rattle.std.specs.Prelude.{◌≡◌, ◌<◌, ◌≤◌};
 ghost use Rattle.edge_pool.specs.Classes.{class_of, size_of, IsLen};
 
 /// How many classes there are.
-pub(crate) const CLASSES: usize = 23;
+pub const CLASSES: usize = 23;
 
 /// The first class whose size isn't below the length.
-pub(crate) fn class_of_len(len: u32) -> usize
+pub fn class_of_len(len: u32) -> usize
     requires { IsLen len }
     ensures is { result ≡ class_of len }
     ensures known { result < 23 }
@@ -19,7 +19,7 @@ pub(crate) fn class_of_len(len: u32) -> usize
 }
 
 /// The cells of a block of a class.
-pub(crate) fn size_of_class(class: usize) -> u32
+pub fn size_of_class(class: usize) -> u32
     requires { class < 23 }
     ensures is { result ≡ size_of class }
     ensures bound { result ≤ 4194304 }

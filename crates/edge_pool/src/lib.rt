@@ -18,4 +18,5 @@ mod pool;
 mod tests;
 
 pub use block::Block;
+pub use classes::{CLASSES, class_of_len, size_of_class};
 pub use pool::{EdgePool, PoolFault};

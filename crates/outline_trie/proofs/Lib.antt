@@ -1,0 +1,13 @@
+mod PairLemmas
+mod OrderLemmas
+mod GrowLemmas
+mod LengthLemmas
+mod TableLemmas
+mod ExtendLemmas
+mod KidLemmas
+mod LookLemmas
+mod RowLemmas
+mod CountLemmas
+mod PoolSizes
+mod SearchLemmas
+mod MadeLemmas

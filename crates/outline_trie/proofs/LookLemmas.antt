@@ -1,0 +1,163 @@
+-- What the look-ups along a path find.
+use Rattle.std.proofs.Common.{◌≡◌, ℕ, ◌+◌, ◌-◌, ◌<◌, ◌≤◌, List, [], ◌∷◌, ◌++◌, length, take, drop, get_or, refl, sym, ap, subst, ◌∙◌, arith, inl, inr, Option, Some, None, Contains, true, false, nat_le}
+use Rattle.std.proofs.lemmas.Bool.{cases_lt}
+use Rattle.std.proofs.lemmas.Bool.Decides.{nat_tests}
+use Rattle.std.proofs.lemmas.List.{get_or_default, get_or_read, take-append-drop, take_more, length_push, drop-append-le, drop_all, take_all, take_at}
+use Rattle.outline_trie.specs.Tables.{IsStep, none_number, written_number}
+use Rattle.outline_trie.specs.Invariants.{IsTrie}
+use Rattle.outline_trie.specs.Tries.{IsNode, AreChildren, child_of, strokes_of, suffix_of, IsParent, IsLast}
+use Rattle.steno_rules.specs.Outlines.{outline_of, number_of}
+use Rattle.steno_rules.specs.Nodes.{nodes}
+use Rattle.steno_rules.proofs.Numbers.{number_of-Some, number_of-outline_of}
+use Rattle.steno_rules.proofs.NodeLemmas.{nodes-rising, nodes-first, nodes-Contains}
+use Rattle.steno_rules.proofs.Prefixes.{is_prefix-front}
+use Rattle.outline_trie.proofs.TableLemmas.{number_of-None}
+
+none_some : (n : ℕ) → ◌≡◌ {A = Option ℕ} None (Some n) → ⊥
+none_some n h = cc
+
+-- ---- what has a number
+
+pub root_is : (entries : List (List ℕ)) → outline_of (nodes entries) 0 ≡ []
+root_is entries = ap (λ ys. outline_of ys 0) (nodes-first entries).1
+
+pub root_inside : (entries : List (List ℕ)) → 0 < length (nodes entries)
+root_inside entries = omega (arith, ap length (nodes-first entries).1)
+
+pub root_number : (entries : List (List ℕ)) → number_of (nodes entries) [] ≡ Some 0
+root_number entries = ap (number_of (nodes entries)) (sym (root_is entries)) ∙ number_of-outline_of (nodes entries) 0 (nodes-rising entries) (root_inside entries)
+
+pub number_there : (entries : List (List ℕ)) (x : List ℕ) (node : ℕ) → node < length (nodes entries) → outline_of (nodes entries) node ≡ x → number_of (nodes entries) x ≡ Some node
+number_there entries x node inside is = ap (number_of (nodes entries)) (sym is) ∙ number_of-outline_of (nodes entries) node (nodes-rising entries) inside
+
+-- a longer list is no node where its front is none
+pub front_none : (entries : List (List ℕ)) (x y : List ℕ) → number_of (nodes entries) x ≡ None → number_of (nodes entries) (x ++ y) ≡ None
+front_none entries x y none = number_of-None (nodes entries) (x ++ y) (λ n inside is.
+    let there : Contains (nodes entries) (x ++ y) = (n, inside, get_or_default (nodes entries) n (x ++ y) [] inside ∙ is) in
+    let front = (nodes-Contains entries x).1 (is_prefix-front entries x y ((nodes-Contains entries (x ++ y)).0 there)) in
+    none_some front.0 (sym none ∙ number_there entries x front.0 front.1 (get_or_default (nodes entries) front.0 [] x front.1 ∙ front.2)))
+
+-- ---- along a list of strokes
+
+-- a node of the first strokes of a list
+pub record IsFound (entries : List (List ℕ)) (strokes : List ℕ) (count node : ℕ) : Type 0 where
+  pub inside : node < length (nodes entries)
+  pub is : outline_of (nodes entries) node ≡ take count strokes
+
+pub found_none : (entries : List (List ℕ)) (strokes : List ℕ) → IsFound entries strokes 0 0
+found_none entries strokes = record { inside = root_inside entries; is = root_is entries }
+
+more_strokes : (entries : List (List ℕ)) (strokes : List ℕ) (count node stroke : ℕ) → IsFound entries strokes count node → count < length strokes → stroke ≡ get_or strokes count 0 →
+    outline_of (nodes entries) node ++ stroke ∷ [] ≡ take (count + 1) strokes
+more_strokes entries strokes count node stroke f inside is = ap (λ u. u ++ stroke ∷ []) f.is ∙ ap (λ c. take count strokes ++ c ∷ []) is ∙ sym (take_more strokes count 0 inside)
+
+pub found_more : (entries : List (List ℕ)) (strokes : List ℕ) (count node stroke next : ℕ) → IsFound entries strokes count node → count < length strokes → stroke ≡ get_or strokes count 0 →
+    child_of entries node stroke ≡ Some next → IsFound entries strokes (count + 1) next
+found_more entries strokes count node stroke next f inside is found =
+    let n = number_of-Some (nodes entries) (outline_of (nodes entries) node ++ stroke ∷ []) next found in
+    record { inside = n.0; is = n.1 ∙ more_strokes entries strokes count node stroke f inside is }
+
+pub found_all : (entries : List (List ℕ)) (strokes : List ℕ) (count node : ℕ) → IsFound entries strokes count node → length strokes ≤ count → number_of (nodes entries) strokes ≡ Some node
+found_all entries strokes count node f all = number_there entries strokes node f.inside (f.is ∙ take_all count strokes all)
+
+pub lost : (entries : List (List ℕ)) (strokes : List ℕ) (count node stroke : ℕ) → IsFound entries strokes count node → count < length strokes → stroke ≡ get_or strokes count 0 →
+    child_of entries node stroke ≡ None → number_of (nodes entries) strokes ≡ None
+lost entries strokes count node stroke f inside is none =
+    ap (number_of (nodes entries)) (sym (take-append-drop (count + 1) strokes))
+    ∙ front_none entries (take (count + 1) strokes) (drop (count + 1) strokes) (ap (number_of (nodes entries)) (sym (more_strokes entries strokes count node stroke f inside is)) ∙ none)
+
+-- ---- up to the parent
+
+pub parent_is : (entries : List (List ℕ)) (node parent stroke : ℕ) → IsStep (nodes entries) node parent stroke → IsParent entries node parent
+parent_is entries node parent stroke s = record { before = s.before; front = front (strokes_of entries parent) (strokes_of entries node) s.is }
+  where
+    front : (u x : List ℕ) → x ≡ u ++ stroke ∷ [] → u ≡ take (length x - 1) x
+    front u x is = sym (ap (λ v. take (length v - 1) v) is ∙ take_at u (stroke ∷ []) (length (u ++ stroke ∷ []) - 1) (omega (arith, length_push u stroke)))
+
+pub last_is : (entries : List (List ℕ)) (node parent stroke : ℕ) → IsStep (nodes entries) node parent stroke → IsLast entries node stroke
+last_is entries node parent stroke s = s.is ∙ ap (λ u. u ++ stroke ∷ []) (parent_is entries node parent stroke s).front
+
+-- ---- the last strokes of a node
+
+enough : (a b : ℕ) → a ≤ b → nat_le a b ≡ true
+enough a b h = grind (arith, nat_tests)
+
+too_many : (a b : ℕ) → b < a → nat_le a b ≡ false
+too_many a b h = grind (arith, nat_tests)
+
+pub suffix_none : (entries : List (List ℕ)) (node : ℕ) → suffix_of entries node 0 ≡ Some 0
+suffix_none entries node =
+    rw (enough 0 (length (strokes_of entries node)) (omega arith), drop_all (length (strokes_of entries node) - 0) (strokes_of entries node) (omega arith)) (root_number entries)
+
+pub suffix_of_root : (entries : List (List ℕ)) (node len : ℕ) → node ≡ 0 → 0 < len → suffix_of entries node len ≡ None
+suffix_of_root entries node len first some = rw (too_many len (length (strokes_of entries node)) (omega (arith, ap (λ n. length (strokes_of entries n)) first, ap length (root_is entries)))) refl
+
+-- the ends of a node, by those of its parent
+ends : (u x : List ℕ) (stroke len : ℕ) → x ≡ u ++ stroke ∷ [] → 0 < len → len ≤ length x → drop (length x - len) x ≡ drop (length u - (len - 1)) u ++ stroke ∷ []
+ends u x stroke len is some fits =
+    ap (λ v. drop (length v - len) v) is
+    ∙ ap (λ n. drop n (u ++ stroke ∷ [])) (same (length (u ++ stroke ∷ [])) (length u) (length_push u stroke))
+    ∙ drop-append-le (length u - (len - 1)) u (stroke ∷ []) (omega arith)
+  where
+    same : (a b : ℕ) → a ≡ b + 1 → a - len ≡ b - (len - 1)
+    same a b e = omega arith
+
+pub suffix_more : (entries : List (List ℕ)) (node parent stroke len begun : ℕ) → IsStep (nodes entries) node parent stroke → 0 < len → suffix_of entries parent (len - 1) ≡ Some begun →
+    suffix_of entries node len ≡ child_of entries begun stroke
+suffix_more entries node parent stroke len begun s some found = elim (cases_lt (length (strokes_of entries node)) len) [
+  | inl more ↦ absurd (none_some begun (sym (rw (too_many (len - 1) (length (strokes_of entries parent)) (omega (arith, long))) refl) ∙ found))
+  | inr fits ↦
+      let found' : number_of (nodes entries) (drop (length (strokes_of entries parent) - (len - 1)) (strokes_of entries parent)) ≡ Some begun =
+      rw (enough (len - 1) (length (strokes_of entries parent)) (omega (arith, long))) at found in
+      let at = number_of-Some (nodes entries) (drop (length (strokes_of entries parent) - (len - 1)) (strokes_of entries parent)) begun found' in
+      rw (enough len (length (strokes_of entries node)) fits) (ap (number_of (nodes entries)) (ends (strokes_of entries parent) (strokes_of entries node) stroke len s.is some fits ∙ ap (λ u. u ++ stroke ∷ []) (sym at.1)))
+]
+  where
+    long : length (strokes_of entries node) ≡ length (strokes_of entries parent) + 1
+    long = ap length s.is ∙ length_push (strokes_of entries parent) stroke
+
+pub suffix_lost : (entries : List (List ℕ)) (node parent stroke len : ℕ) → IsStep (nodes entries) node parent stroke → 0 < len → suffix_of entries parent (len - 1) ≡ None → suffix_of entries node len ≡ None
+suffix_lost entries node parent stroke len s some lost_above = elim (cases_lt (length (strokes_of entries node)) len) [
+  | inl more ↦ rw (too_many len (length (strokes_of entries node)) more) refl
+  | inr fits ↦
+      let none : number_of (nodes entries) (drop (length (strokes_of entries parent) - (len - 1)) (strokes_of entries parent)) ≡ None =
+      rw (enough (len - 1) (length (strokes_of entries parent)) (omega (arith, long))) at lost_above in
+      rw (enough len (length (strokes_of entries node)) fits) (ap (number_of (nodes entries)) (ends (strokes_of entries parent) (strokes_of entries node) stroke len s.is some fits)
+      ∙ front_none entries (drop (length (strokes_of entries parent) - (len - 1)) (strokes_of entries parent)) (stroke ∷ []) none)
+]
+  where
+    long : length (strokes_of entries node) ≡ length (strokes_of entries parent) + 1
+    long = ap length s.is ∙ length_push (strokes_of entries parent) stroke
+
+-- ---- by the fields of a trie
+
+module _ (told now : List (List ℕ)) (parents strokes depths numbers : List ℕ) (rows : List (List (ℕ × ℕ))) (longest : ℕ) (t : IsTrie told parents strokes depths numbers rows longest) (is : told ≡ now) (node : ℕ) (inside : IsNode now node) where
+  trie_now : IsTrie now parents strokes depths numbers rows longest
+  trie_now = subst (λ es. IsTrie es parents strokes depths numbers rows longest) is t
+
+  pub row_children : (row : List (ℕ × ℕ)) → row ≡ get_or rows node [] → AreChildren now node row
+  row_children row read = subst (AreChildren now node) (sym read) (trie_now.children node inside)
+
+  number_read : (number : ℕ) → number ≡ get_or numbers node number → number ≡ written_number (number_of now (strokes_of now node))
+  number_read number read = get_or_read numbers node number (omega (arith, trie_now.numbered.long)) read 0 ∙ trie_now.numbered.number node inside
+
+  told_number : (o : Option ℕ) (number : ℕ) → number_of now (strokes_of now node) ≡ o → number ≡ written_number o → (number ≡ none_number → None ≡ o) × ((number ≡ none_number → ⊥) → Some number ≡ o)
+  told_number None number h e = (λ none. refl, λ some. absurd (some e))
+  told_number (Some n) number h e =
+      let found = number_of-Some now (strokes_of now node) n h in
+      (λ none. absurd (omega (arith, found.0, trie_now.few)), λ some. ap Some e)
+
+  pub entry_none : (number : ℕ) → number ≡ get_or numbers node number → number ≡ none_number → None ≡ number_of now (strokes_of now node)
+  entry_none number read none = (told_number (number_of now (strokes_of now node)) number refl (number_read number read)).0 none
+
+  pub entry_some : (number : ℕ) → number ≡ get_or numbers node number → (number ≡ none_number → ⊥) → Some number ≡ number_of now (strokes_of now node)
+  entry_some number read some = (told_number (number_of now (strokes_of now node)) number refl (number_read number read)).1 some
+
+  -- a node is its parent and its stroke, as they were read
+  pub step_now : 0 < node → (parent stroke : ℕ) → parent ≡ get_or parents node parent → stroke ≡ get_or strokes node stroke → IsStep (nodes now) node parent stroke
+  step_now later parent stroke read told =
+      subst (λ p. IsStep (nodes now) node p stroke) (sym (get_or_read parents node parent (omega (arith, trie_now.table.parents_long)) read 0))
+      (subst (λ s. IsStep (nodes now) node (get_or parents node 0) s) (sym (get_or_read strokes node stroke (omega (arith, trie_now.table.strokes_long)) told 1)) (trie_now.table.step node later inside))
+
+  pub stroke_there : get_or strokes node 1 ≡ get_or strokes node (get_or strokes node 1)
+  stroke_there = get_or_default strokes node 1 (get_or strokes node 1) (omega (arith, trie_now.table.strokes_long))

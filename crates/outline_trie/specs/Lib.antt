@@ -1,0 +1,6 @@
+pub mod Tries
+pub mod Causes
+pub mod Tables
+pub mod Kids
+pub mod RowsOf
+pub mod Invariants

@@ -1,0 +1,45 @@
+-- What the columns of a trie hold. X is the list of the nodes, each with its strokes.
+--     IsStep X node parent stroke     the node is its parent and one stroke more
+--     IsTable X parents strokes depths    the columns are of these nodes; the first node is the root
+--     IsNumbered entries X numbers    each node has its number as an entry, or none
+--     up parents node levels          the node so many levels above
+use Rattle.std.specs.Prelude.{ℕ, zero, suc, ◌≡◌, ◌<◌, ◌++◌, ◌∷◌, [], length, get_or, List, Option, Some, None, nat_eq}
+use Rattle.std.specs.List.{common_prefix_len}
+use Rattle.steno_rules.specs.Outlines.{outline_of, number_of}
+
+pub record IsStep (X : List (List ℕ)) (node parent stroke : ℕ) : Type 0 where
+  pub before : parent < node
+  pub is : outline_of X node ≡ outline_of X parent ++ stroke ∷ []
+
+pub record IsTable (X : List (List ℕ)) (parents strokes depths : List ℕ) : Type 0 where
+  pub parents_long : length parents ≡ length X
+  pub strokes_long : length strokes ≡ length X
+  pub depths_long : length depths ≡ length X
+  pub root : get_or parents 0 0 ≡ 0
+  pub depth : (node : ℕ) → node < length X → get_or depths node 0 ≡ length (outline_of X node)
+  pub step : (node : ℕ) → 0 < node → node < length X → IsStep X node (get_or parents node 0) (get_or strokes node 1)
+
+-- how no entry is written down
+abbrev pub none_number : ℕ
+none_number = 4294967295
+
+abbrev pub written_number : Option ℕ → ℕ
+written_number None = none_number
+written_number (Some number) = number
+
+pub record IsNumbered (entries X : List (List ℕ)) (numbers : List ℕ) : Type 0 where
+  pub long : length numbers ≡ length X
+  pub number : (node : ℕ) → node < length X → get_or numbers node 0 ≡ written_number (number_of entries (outline_of X node))
+
+abbrev pub up : List ℕ → ℕ → ℕ → ℕ
+up parents node zero = node
+up parents node (suc levels) = up parents (get_or parents node 0) levels
+
+-- the strokes that two outlines begin with alike
+abbrev pub shared : List ℕ → List ℕ → ℕ
+shared xs ys = common_prefix_len nat_eq xs ys
+
+-- the entry before one, or no strokes before the first
+abbrev pub outline_before : List (List ℕ) → ℕ → List ℕ
+outline_before entries zero = []
+outline_before entries (suc number) = outline_of entries number

@@ -1,0 +1,184 @@
+//! The rows of children, in one pool.
+ghost use Rattle.std.specs.Prelude.{ℕ, ◌≡◌, ◌+◌, ◌<◌, ◌≤◌, ◌++◌, ◌∷◌, [], All, map, sum, length, get_or, slice_set, replicate, IfOk};
+ghost use Rattle.edge_pool.specs.Pools.{zeros};
+ghost use Rattle.outline_trie.specs.Kids.{kid_count, kids};
+ghost use Rattle.outline_trie.specs.RowsOf.{AreRows, rows_at};
+
+use edge_pool::{Block, CLASSES, EdgePool, class_of_len, size_of_class};
+use std::alloc::{AllocError, Global};
+use std::marker::Model;
+use stroke::Stroke;
+
+/// How a node without children is written among the indexes.
+const NO_ROW: u32 = u32::MAX;
+
+/// For each node the row of its children, seen as the list of the rows. A row is a block of the pool, and a node without
+/// children has none.
+#[derive(Drop)]
+pub(crate) struct Rows {
+    pool: EdgePool,
+    blocks: Vec<Block>,
+    indexes: Vec<u32>,
+}
+
+impl Model for Rows {
+    ghost use Rattle.std.specs.Prelude.{ℕ, List};
+    ghost use Rattle.outline_trie.specs.RowsOf.{rows_at, AreRows};
+
+    ghost Value = { List (List (ℕ × ℕ)) };
+
+    ghost view = { λ r. rows_at r.pool r.blocks.items r.indexes.items };
+
+    ghost invariant = { λ r. AreRows r.pool r.blocks.items r.indexes.items };
+}
+
+/// The rows of the children, from the columns of parents and strokes.
+pub(crate) fn rows_of(
+    alloc: Global,
+    parents: &[u32],
+    strokes: &[Stroke],
+) -> Result<Rows, AllocError>
+    requires some { 0 < length parents.now }
+    requires few { length parents.now ≤ 4194304 }
+    requires long { length strokes.now ≡ length parents.now }
+    requires below { All (λ p. p < length parents.now) parents.now }
+    ensures long { IfOk result (λ rows. length rows ≡ length parents.now) }
+    ensures rows { IfOk result (λ rows. (node : ℕ) → node < length parents.now → get_or rows node [] ≡ kids parents.now strokes.now node (length parents.now)) }
+{
+    let counts = count_children(alloc, parents)?;
+    let mut rows = zero_rows(alloc, counts.as_slice())?;
+    let filled = vec![in alloc; 0u32; parents.len()]?;
+    rows.fill(parents, strokes, filled);
+    Ok(rows)
+}
+
+/// How many children each node has.
+fn count_children(alloc: Global, parents: &[u32]) -> Result<Vec<u32>, AllocError>
+    requires some { 0 < length parents.now }
+    requires few { length parents.now ≤ 4194304 }
+    requires below { All (λ p. p < length parents.now) parents.now }
+    ensures long { IfOk result (λ counts. length counts.items ≡ length parents.now) }
+    ensures each { IfOk result (λ counts. (node : ℕ) → node < length parents.now → get_or counts.items node 0 ≡ kid_count parents.now node (length parents.now)) }
+    ensures total { IfOk result (λ counts. sum counts.items ≤ length parents.now) }
+{
+    let mut counts = vec![in alloc; 0; parents.len()]?;
+    for node in 1..parents.len() {
+        counts[parents[node] as usize] += 1;
+    }
+    Ok(counts)
+}
+
+/// A pool of the cells of these rows and no more, with the rows of each class reserved.
+fn pool_of(alloc: Global, counts: &[u32]) -> Result<EdgePool, AllocError>
+    requires few { length counts.now ≤ 4194304 }
+    requires total { sum counts.now ≤ 4194304 }
+{
+    let mut kinds = [0u32; CLASSES];
+    let mut cells = 0;
+    for &count in counts {
+        if count > 0 {
+            let class = class_of_len(count);
+            kinds[class] += 1;
+            cells += size_of_class(class);
+        }
+    }
+    let mut pool = EdgePool::with_cells(alloc, cells)?;
+    for class in 0..CLASSES {
+        if pool.reserve(size_of_class(class), kinds[class]).is_err() {
+            return Err(AllocError);
+        }
+    }
+    Ok(pool)
+}
+
+/// For each count a row of so many zeros.
+fn zero_rows(alloc: Global, counts: &[u32]) -> Result<Rows, AllocError>
+    requires few { length counts.now ≤ 4194304 }
+    requires total { sum counts.now ≤ 4194304 }
+    ensures { IfOk result (λ rows. rows ≡ map zeros counts.now) }
+{
+    let mut pool = pool_of(alloc, counts)?;
+    let mut blocks = Vec::with_capacity(alloc, counts.iter().filter(|count| **count > 0).count())?;
+    let mut indexes = Vec::with_capacity(alloc, counts.len())?;
+    for &count in counts {
+        push_row(&mut pool, &mut blocks, &mut indexes, count)?;
+    }
+    Ok(Rows {
+        pool,
+        blocks,
+        indexes,
+    })
+}
+
+/// One row of zeros more.
+fn push_row(
+    pool: &mut EdgePool,
+    blocks: &mut Vec<Block>,
+    indexes: &mut Vec<u32>,
+    len: u32,
+) -> Result<(), AllocError>
+    requires len { len ≤ 4194304 }
+    requires few { length indexes.old.items < 4194304 }
+    requires rows { AreRows pool.old blocks.old.items indexes.old.items }
+    ensures rows { IfOk result (λ _. AreRows pool.new blocks.new.items indexes.new.items) }
+    ensures more { IfOk result (λ _. rows_at pool.new blocks.new.items indexes.new.items ≡ rows_at pool.old blocks.old.items indexes.old.items ++ zeros len ∷ []) }
+{
+    if len == 0 {
+        indexes.push(NO_ROW)?;
+        return Ok(());
+    }
+    match pool.take(len) {
+        Ok(block) => {
+            indexes.push(blocks.len() as u32)?;
+            blocks.push(block)?;
+            Ok(())
+        }
+        Err(_) => Err(AllocError),
+    }
+}
+
+impl Rows {
+    /// Writes each child into the row of its parent, in order. `filled` has a 0 for each row.
+    fn fill(&mut self, parents: &[u32], strokes: &[Stroke], mut filled: Vec<u32>)
+        requires some { 0 < length parents.now }
+        requires few { length parents.now ≤ 4194304 }
+        requires long { length strokes.now ≡ length parents.now }
+        requires below { All (λ p. p < length parents.now) parents.now }
+        requires filled { filled.items ≡ replicate (length parents.now) 0 }
+        requires rows { length self.old ≡ length parents.now }
+        requires empty { (node : ℕ) → node < length parents.now → get_or self.old node [] ≡ zeros (kid_count parents.now node (length parents.now)) }
+        ensures long { length self.new ≡ length parents.now }
+        ensures rows { (node : ℕ) → node < length parents.now → get_or self.new node [] ≡ kids parents.now strokes.now node (length parents.now) }
+    {
+        for child in 1..parents.len() {
+            let parent = parents[child];
+            let place = filled[parent as usize];
+            self.write(parent, place, (strokes[child].code(), child as u32));
+            filled[parent as usize] = place + 1;
+        }
+    }
+
+    /// Sets one pair of a row.
+    fn write(&mut self, node: u32, place: u32, pair: (u32, u32))
+        requires node { node < length self.old }
+        requires place { place < length (get_or self.old node []) }
+        ensures { self.new ≡ slice_set self.old node (slice_set (get_or self.old node []) place pair) }
+    {
+        let index = self.indexes[node as usize];
+        let block = &self.blocks[index as usize];
+        self.pool.write(block, place, pair);
+    }
+
+    /// The row of a node.
+    pub(crate) fn row(&self, node: u32) -> &[(u32, u32)]
+        requires { node < length self.now }
+        ensures { result.now ≡ get_or self.now node [] }
+    {
+        let index = self.indexes[node as usize];
+        if index == NO_ROW {
+            &[]
+        } else {
+            self.pool.cells(&self.blocks[index as usize])
+        }
+    }
+}
