@@ -63,6 +63,11 @@ module _ (entries : List (List ℕ)) (k : ℕ) (are : AreEntries entries) (insid
   extend_bound j from to =
       omega (arith, length_grown_at entries k are inside j from to, length_more entries k are inside, length_rises entries (length entries - (k + 1)) (k + 1) are (omega arith))
 
+  -- while strokes are left, so are nodes
+  pub extend_below : (j : ℕ) → begun ≤ j → j < length e → length (nodes (grown entries k j)) < length (nodes entries)
+  extend_below j from to =
+      omega (arith, length_grown_at entries k are inside j from (omega arith), length_more entries k are inside, length_rises entries (length entries - (k + 1)) (k + 1) are (omega arith))
+
   pub extend_end : (j : ℕ) (parents strokes depths numbers : List ℕ) (node : ℕ) → j ≡ length e → IsExtending (take k entries) (nodes (grown entries k j)) e j parents strokes depths numbers node →
       IsExtending (take k entries) (nodes (take (k + 1) entries)) e (length e) parents strokes depths numbers node
   extend_end j parents strokes depths numbers node all x =

@@ -8,6 +8,6 @@ mod KidLemmas
 mod LookLemmas
 mod RowLemmas
 mod CountLemmas
-mod PoolSizes
+mod RoomLemmas
 mod SearchLemmas
 mod MadeLemmas

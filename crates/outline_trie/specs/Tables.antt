@@ -2,8 +2,9 @@
 --     IsStep X node parent stroke     the node is its parent and one stroke more
 --     IsTable X parents strokes depths    the columns are of these nodes; the first node is the root
 --     IsNumbered entries X numbers    each node has its number as an entry, or none
+--     HasPlaces count ..              each column has places for so many nodes
 --     up parents node levels          the node so many levels above
-use Rattle.std.specs.Prelude.{ℕ, zero, suc, ◌≡◌, ◌<◌, ◌++◌, ◌∷◌, [], length, get_or, List, Option, Some, None, nat_eq}
+use Rattle.std.specs.Prelude.{ℕ, zero, suc, ◌≡◌, ◌<◌, ◌≤◌, ◌++◌, ◌∷◌, [], length, get_or, List, Option, Some, None, nat_eq}
 use Rattle.std.specs.List.{common_prefix_len}
 use Rattle.steno_rules.specs.Outlines.{outline_of, number_of}
 
@@ -30,6 +31,12 @@ written_number (Some number) = number
 pub record IsNumbered (entries X : List (List ℕ)) (numbers : List ℕ) : Type 0 where
   pub long : length numbers ≡ length X
   pub number : (node : ℕ) → node < length X → get_or numbers node 0 ≡ written_number (number_of entries (outline_of X node))
+
+pub record HasPlaces (count parents strokes depths numbers : ℕ) : Type 0 where
+  pub in_parents : count ≤ parents
+  pub in_strokes : count ≤ strokes
+  pub in_depths : count ≤ depths
+  pub in_numbers : count ≤ numbers
 
 abbrev pub up : List ℕ → ℕ → ℕ → ℕ
 up parents node zero = node

@@ -10,6 +10,7 @@
 #![tactic(auto)]
 
 mod count;
+mod room;
 mod rows;
 mod shared;
 mod table;

@@ -1,16 +1,14 @@
 //! The rows of children, in one pool.
-ghost use Rattle.std.specs.Prelude.{ℕ, ◌≡◌, ◌+◌, ◌<◌, ◌≤◌, ◌++◌, ◌∷◌, [], All, map, sum, length, get_or, slice_set, replicate, IfOk};
+ghost use Rattle.std.specs.Prelude.{ℕ, ◌≡◌, ◌<◌, ◌≤◌, [], All, map, sum, length, get_or, slice_set, replicate, vec_capacity, IfOk};
 ghost use Rattle.edge_pool.specs.Pools.{zeros};
 ghost use Rattle.outline_trie.specs.Kids.{kid_count, kids};
-ghost use Rattle.outline_trie.specs.RowsOf.{AreRows, rows_at};
+ghost use Rattle.outline_trie.specs.Rooms.{HasRoom};
 
-use edge_pool::{Block, CLASSES, EdgePool, class_of_len, size_of_class};
+use crate::room::{NO_ROW, Room, room_for};
+use edge_pool::{Block, EdgePool};
 use std::alloc::{AllocError, Global};
 use std::marker::Model;
 use stroke::Stroke;
-
-/// How a node without children is written among the indexes.
-const NO_ROW: u32 = u32::MAX;
 
 /// For each node the row of its children, seen as the list of the rows. A row is a block of the pool, and a node without
 /// children has none.
@@ -46,8 +44,9 @@ pub(crate) fn rows_of(
     ensures rows { IfOk result (λ rows. (node : ℕ) → node < length parents.now → get_or rows node [] ≡ kids parents.now strokes.now node (length parents.now)) }
 {
     let counts = count_children(alloc, parents)?;
-    let mut rows = zero_rows(alloc, counts.as_slice())?;
     let filled = vec![in alloc; 0u32; parents.len()]?;
+    let room = room_for(alloc, counts.as_slice())?;
+    let mut rows = zero_rows(room, counts.as_slice());
     rows.fill(parents, strokes, filled);
     Ok(rows)
 }
@@ -68,72 +67,22 @@ fn count_children(alloc: Global, parents: &[u32]) -> Result<Vec<u32>, AllocError
     Ok(counts)
 }
 
-/// A pool of the cells of these rows and no more, with the rows of each class reserved.
-fn pool_of(alloc: Global, counts: &[u32]) -> Result<EdgePool, AllocError>
-    requires few { length counts.now ≤ 4194304 }
-    requires total { sum counts.now ≤ 4194304 }
-{
-    let mut kinds = [0u32; CLASSES];
-    let mut cells = 0;
-    for &count in counts {
-        if count > 0 {
-            let class = class_of_len(count);
-            kinds[class] += 1;
-            cells += size_of_class(class);
-        }
-    }
-    let mut pool = EdgePool::with_cells(alloc, cells)?;
-    for class in 0..CLASSES {
-        if pool.reserve(size_of_class(class), kinds[class]).is_err() {
-            return Err(AllocError);
-        }
-    }
-    Ok(pool)
-}
-
 /// For each count a row of so many zeros.
-fn zero_rows(alloc: Global, counts: &[u32]) -> Result<Rows, AllocError>
+fn zero_rows(mut room: Room, counts: &[u32]) -> Rows
     requires few { length counts.now ≤ 4194304 }
     requires total { sum counts.now ≤ 4194304 }
-    ensures { IfOk result (λ rows. rows ≡ map zeros counts.now) }
+    requires room { HasRoom counts.now room.pool (vec_capacity room.blocks) (vec_capacity room.indexes) }
+    requires blocks { room.blocks.items ≡ [] }
+    requires indexes { room.indexes.items ≡ [] }
+    ensures { result ≡ map zeros counts.now }
 {
-    let mut pool = pool_of(alloc, counts)?;
-    let mut blocks = Vec::with_capacity(alloc, counts.iter().filter(|count| **count > 0).count())?;
-    let mut indexes = Vec::with_capacity(alloc, counts.len())?;
     for &count in counts {
-        push_row(&mut pool, &mut blocks, &mut indexes, count)?;
+        room.push_row(count);
     }
-    Ok(Rows {
-        pool,
-        blocks,
-        indexes,
-    })
-}
-
-/// One row of zeros more.
-fn push_row(
-    pool: &mut EdgePool,
-    blocks: &mut Vec<Block>,
-    indexes: &mut Vec<u32>,
-    len: u32,
-) -> Result<(), AllocError>
-    requires len { len ≤ 4194304 }
-    requires few { length indexes.old.items < 4194304 }
-    requires rows { AreRows pool.old blocks.old.items indexes.old.items }
-    ensures rows { IfOk result (λ _. AreRows pool.new blocks.new.items indexes.new.items) }
-    ensures more { IfOk result (λ _. rows_at pool.new blocks.new.items indexes.new.items ≡ rows_at pool.old blocks.old.items indexes.old.items ++ zeros len ∷ []) }
-{
-    if len == 0 {
-        indexes.push(NO_ROW)?;
-        return Ok(());
-    }
-    match pool.take(len) {
-        Ok(block) => {
-            indexes.push(blocks.len() as u32)?;
-            blocks.push(block)?;
-            Ok(())
-        }
-        Err(_) => Err(AllocError),
+    Rows {
+        pool: room.pool,
+        blocks: room.blocks,
+        indexes: room.indexes,
     }
 }
 

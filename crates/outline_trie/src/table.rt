@@ -1,9 +1,9 @@
 //! The columns of the nodes, a place of each column for each node. The entries come in order, so a node is made when its
 //! strokes are met first, and the numbers of nodes are those of outline order.
-ghost use Rattle.std.specs.Prelude.{◌≡◌, ◌+◌, ◌-◌, ◌<◌, ◌≤◌, ◌++◌, ◌∷◌, [], ◌^◌, length, take, All, IfOk};
+ghost use Rattle.std.specs.Prelude.{ℕ, ◌≡◌, ◌+◌, ◌-◌, ◌<◌, ◌≤◌, ◌++◌, ◌∷◌, [], ◌^◌, length, take, vec_capacity, All, IfOk};
 ghost use Rattle.steno_rules.specs.Outlines.{AreEntries, outline_of};
 ghost use Rattle.steno_rules.specs.Nodes.{nodes};
-ghost use Rattle.outline_trie.specs.Tables.{IsTable, IsNumbered, outline_before, shared, up, none_number};
+ghost use Rattle.outline_trie.specs.Tables.{IsTable, IsNumbered, HasPlaces, outline_before, shared, up, none_number};
 
 use crate::count::strokes_before;
 use crate::shared::shared_len;
@@ -37,15 +37,17 @@ pub(crate) fn table_of(
 {
     let mut table = root_table(alloc, count)?;
     for number in 0..entries.len() {
-        table.add(entries, number)?;
+        table.add(entries, number);
     }
     Ok(table)
 }
 
-/// The columns of the root alone, with room for `count` nodes.
+/// The columns of the root alone, with places for `count` nodes.
 fn root_table(alloc: Global, count: usize) -> Result<Table, AllocError>
+    requires { 0 < count }
     ensures table { IfOk result (λ t. IsTable ([] ∷ []) t.parents.items t.strokes.items t.depths.items) }
     ensures numbers { IfOk result (λ t. t.numbers.items ≡ none_number ∷ []) }
+    ensures places { IfOk result (λ t. HasPlaces count (vec_capacity t.parents) (vec_capacity t.strokes) (vec_capacity t.depths) (vec_capacity t.numbers)) }
 {
     let mut table = Table {
         parents: Vec::with_capacity(alloc, count)?,
@@ -53,53 +55,52 @@ fn root_table(alloc: Global, count: usize) -> Result<Table, AllocError>
         depths: Vec::with_capacity(alloc, count)?,
         numbers: Vec::with_capacity(alloc, count)?,
     };
-    table.push(0, Stroke::default(), 0)?;
+    table.push(0, Stroke::default(), 0);
     Ok(table)
 }
 
 impl Table {
     /// One node more.
-    fn push(&mut self, parent: u32, stroke: Stroke, depth: u8) -> Result<(), AllocError>
-        ensures parents { IfOk result (λ _. self.new.parents.items ≡ self.old.parents.items ++ parent ∷ []) }
-        ensures strokes { IfOk result (λ _. self.new.strokes.items ≡ self.old.strokes.items ++ stroke ∷ []) }
-        ensures depths { IfOk result (λ _. self.new.depths.items ≡ self.old.depths.items ++ depth ∷ []) }
-        ensures numbers { IfOk result (λ _. self.new.numbers.items ≡ self.old.numbers.items ++ none_number ∷ []) }
+    fn push(&mut self, parent: u32, stroke: Stroke, depth: u8)
+        requires parents { length self.old.parents.items < vec_capacity self.old.parents }
+        requires strokes { length self.old.strokes.items < vec_capacity self.old.strokes }
+        requires depths { length self.old.depths.items < vec_capacity self.old.depths }
+        requires numbers { length self.old.numbers.items < vec_capacity self.old.numbers }
+        ensures parents { self.new.parents.items ≡ self.old.parents.items ++ parent ∷ [] }
+        ensures strokes { self.new.strokes.items ≡ self.old.strokes.items ++ stroke ∷ [] }
+        ensures depths { self.new.depths.items ≡ self.old.depths.items ++ depth ∷ [] }
+        ensures numbers { self.new.numbers.items ≡ self.old.numbers.items ++ none_number ∷ [] }
+        ensures places { (count : ℕ) → HasPlaces count (vec_capacity self.old.parents) (vec_capacity self.old.strokes) (vec_capacity self.old.depths) (vec_capacity self.old.numbers) → HasPlaces count (vec_capacity self.new.parents) (vec_capacity self.new.strokes) (vec_capacity self.new.depths) (vec_capacity self.new.numbers) }
     {
-        self.parents.push(parent)?;
-        self.strokes.push(stroke)?;
-        self.depths.push(depth)?;
-        self.numbers.push(NO_ENTRY)?;
-        Ok(())
+        self.parents.push_reserved(parent);
+        self.strokes.push_reserved(stroke);
+        self.depths.push_reserved(depth);
+        self.numbers.push_reserved(NO_ENTRY);
     }
 
     /// The nodes of one entry more, whose beginning it shares with the entry before.
-    fn add(&mut self, entries: &[Outline], number: usize) -> Result<(), AllocError>
+    fn add(&mut self, entries: &[Outline], number: usize)
         requires entries { AreEntries entries.now }
         requires few { length entries.now < 2 ^ 31 }
         requires number { number < length entries.now }
         requires bound { length (nodes entries.now) ≤ 4194304 }
         requires table { IsTable (nodes (take number entries.now)) self.old.parents.items self.old.strokes.items self.old.depths.items }
         requires numbers { IsNumbered (take number entries.now) (nodes (take number entries.now)) self.old.numbers.items }
-        ensures table { IfOk result (λ _. IsTable (nodes (take (number + 1) entries.now)) self.new.parents.items self.new.strokes.items self.new.depths.items) }
-        ensures numbers { IfOk result (λ _. IsNumbered (take (number + 1) entries.now) (nodes (take (number + 1) entries.now)) self.new.numbers.items) }
+        requires places { HasPlaces (length (nodes entries.now)) (vec_capacity self.old.parents) (vec_capacity self.old.strokes) (vec_capacity self.old.depths) (vec_capacity self.old.numbers) }
+        ensures table { IsTable (nodes (take (number + 1) entries.now)) self.new.parents.items self.new.strokes.items self.new.depths.items }
+        ensures numbers { IsNumbered (take (number + 1) entries.now) (nodes (take (number + 1) entries.now)) self.new.numbers.items }
+        ensures places { HasPlaces (length (nodes entries.now)) (vec_capacity self.new.parents) (vec_capacity self.new.strokes) (vec_capacity self.new.depths) (vec_capacity self.new.numbers) }
     {
         let before = strokes_before(entries, number);
         let shared = shared_len(before, entries[number].strokes());
         let top = climb(self.parents.as_slice(), before.len() - shared);
-        let node = self.extend(entries, number, shared, top)?;
+        let node = self.extend(entries, number, shared, top);
         self.numbers[node as usize] = number as u32;
-        Ok(())
     }
 
     /// The nodes of an entry's strokes from `from` on, each below the one before, and the first below `top`. The last of
     /// them, which is the entry.
-    fn extend(
-        &mut self,
-        entries: &[Outline],
-        number: usize,
-        from: usize,
-        top: u32,
-    ) -> Result<u32, AllocError>
+    fn extend(&mut self, entries: &[Outline], number: usize, from: usize, top: u32) -> u32
         requires entries { AreEntries entries.now }
         requires number { number < length entries.now }
         requires bound { length (nodes entries.now) ≤ 4194304 }
@@ -108,19 +109,21 @@ impl Table {
         requires top { outline_of (nodes (take number entries.now)) top ≡ take from (outline_of entries.now number) }
         requires table { IsTable (nodes (take number entries.now)) self.old.parents.items self.old.strokes.items self.old.depths.items }
         requires numbers { IsNumbered (take number entries.now) (nodes (take number entries.now)) self.old.numbers.items }
-        ensures table { IfOk result (λ _. IsTable (nodes (take (number + 1) entries.now)) self.new.parents.items self.new.strokes.items self.new.depths.items) }
-        ensures numbers { IfOk result (λ _. IsNumbered (take number entries.now) (nodes (take (number + 1) entries.now)) self.new.numbers.items) }
-        ensures inside { IfOk result (λ node. node < length (nodes (take (number + 1) entries.now))) }
-        ensures node { IfOk result (λ node. outline_of (nodes (take (number + 1) entries.now)) node ≡ outline_of entries.now number) }
+        requires places { HasPlaces (length (nodes entries.now)) (vec_capacity self.old.parents) (vec_capacity self.old.strokes) (vec_capacity self.old.depths) (vec_capacity self.old.numbers) }
+        ensures table { IsTable (nodes (take (number + 1) entries.now)) self.new.parents.items self.new.strokes.items self.new.depths.items }
+        ensures numbers { IsNumbered (take number entries.now) (nodes (take (number + 1) entries.now)) self.new.numbers.items }
+        ensures inside { result < length (nodes (take (number + 1) entries.now)) }
+        ensures node { outline_of (nodes (take (number + 1) entries.now)) result ≡ outline_of entries.now number }
+        ensures places { HasPlaces (length (nodes entries.now)) (vec_capacity self.new.parents) (vec_capacity self.new.strokes) (vec_capacity self.new.depths) (vec_capacity self.new.numbers) }
     {
         let strokes = entries[number].strokes();
         let mut node = top;
         for place in from..strokes.len() {
             let next = self.parents.len() as u32;
-            self.push(node, strokes[place], place as u8 + 1)?;
+            self.push(node, strokes[place], place as u8 + 1);
             node = next;
         }
-        Ok(node)
+        node
     }
 }
 

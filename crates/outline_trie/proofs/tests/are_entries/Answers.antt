@@ -1,4 +1,4 @@
-use Rattle.std.proofs.Common.{◌≡◌, ◌==◌, ℕ, zero, suc, true, false, true≢false, ◌+◌, ◌-◌, ◌<◌, ◌≤◌, List, [], ◌∷◌, ◌++◌, length, take, get_or, sym, ap, subst, ◌∙◌, arith, inl, inr, All, Contains, Less, length-take, Ordering}
+use Rattle.std.proofs.Common.{◌≡◌, ◌==◌, ℕ, zero, suc, false, true≢false, ◌+◌, ◌-◌, ◌<◌, List, [], ◌∷◌, length, take, get_or, sym, ap, subst, ◌∙◌, arith, inl, inr, Contains, Less, length-take}
 use Rattle.std.proofs.lemmas.Bool.{cases_lt, cases_eq}
 use Rattle.std.proofs.lemmas.List.{get_or_read, get_or_default, get_or_push, get_or_append_left, get_or-take, take_more, length_push, length-take-le}
 use Rattle.steno_rules.specs.Outlines.{AreEntries, AreRising, outline_cmp, outline_of}

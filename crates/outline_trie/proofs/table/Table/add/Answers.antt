@@ -18,23 +18,23 @@ climb-top-requires c =
       below = subst (λ (xs : List ℕ). All (λ p. p < length xs) xs) (sym c.as_slice.ensures.value) (parents_below _ _ _ _ t);
     }
 
-pub extend-requires-clause-from : goal.extend-requires-clause-from
-extend-requires-clause-from c =
+pub extend-node-requires-clause-from : goal.extend-node-requires-clause-from
+extend-node-requires-clause-from c =
     let e : c.strokes.result.now ≡ outline_of c.args.entries.now c.args.number = c.strokes.ensures.strokes ∙ get_or_read c.args.entries.now c.args.number _ c.requires.number c.index-entries-number.is [] in
     c.shared_len-shared.ensures.is ∙ ap (λ xs. shared xs c.strokes.result.now) c.strokes_before-before.ensures ∙ ap (shared (outline_before c.args.entries.now c.args.number)) e
 
-pub extend-requires-clause-inside : goal.extend-requires-clause-inside
-extend-requires-clause-inside c =
-    let from = extend-requires-clause-from c in
+pub extend-node-requires-clause-inside : goal.extend-node-requires-clause-inside
+extend-node-requires-clause-inside c =
+    let from = extend-node-requires-clause-from c in
     (top_at c.args.entries.now c.args.number c.requires.entries c.requires.number c.args.self.now.parents.items _ _ c.as_slice.result.now (length c.strokes_before-before.result.now - c.shared_len-shared.result) c.climb-top.result
     c.requires.table c.as_slice.ensures.value (omega (arith, from, ap length c.strokes_before-before.ensures)) c.climb-top.ensures).0
 
-pub extend-requires-clause-top : goal.extend-requires-clause-top
-extend-requires-clause-top c =
-    let from = extend-requires-clause-from c in
+pub extend-node-requires-clause-top : goal.extend-node-requires-clause-top
+extend-node-requires-clause-top c =
+    let from = extend-node-requires-clause-from c in
     (top_at c.args.entries.now c.args.number c.requires.entries c.requires.number c.args.self.now.parents.items _ _ c.as_slice.result.now (length c.strokes_before-before.result.now - c.shared_len-shared.result) c.climb-top.result
     c.requires.table c.as_slice.ensures.value (omega (arith, from, ap length c.strokes_before-before.ensures)) c.climb-top.ensures).1
     ∙ ap (λ n. take n (outline_of c.args.entries.now c.args.number)) (sym from)
 
 pub returns-clause-numbers : goal.returns-clause-numbers
-returns-clause-numbers c = add_numbers c.args.entries.now c.args.number c.requires.entries c.requires.number c.extend.new.self.numbers.items c.in_ok-node.node c.in_ok-node.ensures.numbers c.in_ok-node.ensures.inside c.in_ok-node.ensures.node
+returns-clause-numbers c = add_numbers c.args.entries.now c.args.number c.requires.entries c.requires.number c.extend-node.new.self.numbers.items c.extend-node.result c.extend-node.ensures.numbers c.extend-node.ensures.inside c.extend-node.ensures.node
