@@ -5,7 +5,8 @@ mod LengthLemmas
 mod TableLemmas
 mod ExtendLemmas
 mod KidLemmas
-mod LookLemmas
+pub mod DepthLemmas
+pub mod LookLemmas
 mod RowLemmas
 mod CountLemmas
 mod RoomLemmas

@@ -12,6 +12,7 @@ use Rattle.steno_rules.proofs.Numbers.{number_of-Some, number_of-outline_of}
 use Rattle.steno_rules.proofs.NodeLemmas.{nodes-rising, nodes-first, nodes-Contains}
 use Rattle.steno_rules.proofs.Prefixes.{is_prefix-front}
 use Rattle.outline_trie.proofs.TableLemmas.{number_of-None}
+use Rattle.outline_trie.proofs.DepthLemmas.{node_short}
 
 none_some : (n : ℕ) → ◌≡◌ {A = Option ℕ} None (Some n) → ⊥
 none_some n h = cc
@@ -161,3 +162,15 @@ module _ (told now : List (List ℕ)) (parents strokes depths numbers : List ℕ
 
   pub stroke_there : get_or strokes node 1 ≡ get_or strokes node (get_or strokes node 1)
   stroke_there = get_or_default strokes node 1 (get_or strokes node 1) (omega (arith, trie_now.table.strokes_long))
+
+  -- no node has more strokes than the trie tells of the longest entry
+  pub depth_short : (depth : ℕ) → depth ≡ get_or depths node depth → depth ≤ 64
+  depth_short depth read =
+      omega (
+        arith,
+        get_or_read depths node depth (omega (arith, trie_now.table.depths_long)) read 0,
+        trie_now.table.depth node inside,
+        node_short now node inside,
+        trie_now.most,
+        trie_now.short,
+      )

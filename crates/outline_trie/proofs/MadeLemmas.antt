@@ -10,8 +10,8 @@ use Rattle.outline_trie.proofs.KidLemmas.{children_are}
 
 pub trie_made : (told entries : List (List ℕ)) (parents strokes depths numbers ps ss : List ℕ) (rows : List (List (ℕ × ℕ))) (longest : ℕ) → told ≡ entries → AreEntries entries → length entries < 2 ^ 31 → length (nodes entries) ≤ 4194304 →
     IsTable (nodes entries) parents strokes depths → IsNumbered entries (nodes entries) numbers → ps ≡ parents → ss ≡ strokes → length rows ≡ length ps →
-    ((node : ℕ) → node < length ps → get_or rows node [] ≡ kids ps ss node (length ps)) → longest ≡ longest_of entries → IsTrie told parents strokes depths numbers rows longest
-trie_made told entries parents strokes depths numbers ps ss rows longest same are few bound t h same_ps same_ss long each most =
+    ((node : ℕ) → node < length ps → get_or rows node [] ≡ kids ps ss node (length ps)) → longest ≡ longest_of entries → longest ≤ 64 → IsTrie told parents strokes depths numbers rows longest
+trie_made told entries parents strokes depths numbers ps ss rows longest same are few bound t h same_ps same_ss long each most short =
     subst (λ es. IsTrie es parents strokes depths numbers rows longest) (sym same) (record {
       are_entries = are;
       few = few;
@@ -21,6 +21,7 @@ trie_made told entries parents strokes depths numbers ps ss rows longest same ar
       rows_long = omega (arith, long, ap length same_ps, t.parents_long);
       children = λ node inside. subst (AreChildren entries node) (sym (row node inside)) (children_are entries parents strokes depths t node inside);
       most = most;
+      short = short;
     })
   where
     row : (node : ℕ) → node < length (nodes entries) → get_or rows node [] ≡ kids parents strokes node (length (nodes entries))

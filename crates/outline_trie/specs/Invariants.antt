@@ -14,3 +14,4 @@ pub record IsTrie (entries : List (List ℕ)) (parents strokes depths numbers : 
   pub rows_long : length rows ≡ length (nodes entries)
   pub children : (node : ℕ) → node < length (nodes entries) → AreChildren entries node (get_or rows node [])
   pub most : longest ≡ longest_of entries
+  pub short : longest ≤ 64

@@ -38,6 +38,7 @@ pub(crate) fn count_nodes(entries: &[Outline]) -> u64
 /// The most strokes of an entry, and the entries told to a history.
 pub(crate) fn tell(entries: &[Outline]) -> (u32, History<Outline>)
     ensures longest { result.0 ≡ longest_of entries.now }
+    ensures short { result.0 ≤ 64 }
     ensures told { reverse result.1.items ≡ entries.now }
 {
     let mut longest = 0;

@@ -95,7 +95,8 @@ impl Trie {
 
     /// The most strokes of an entry, 0 where there are none.
     pub fn longest_entry(&self) -> u32
-        ensures { result ≡ longest_of self.now }
+        ensures longest { result ≡ longest_of self.now }
+        ensures short { result ≤ 64 }
     {
         self.longest
     }
@@ -151,7 +152,8 @@ impl Trie {
     /// How many strokes a node has.
     pub fn depth(&self, node: u32) -> u32
         requires { IsNode self.now node }
-        ensures { result ≡ length (strokes_of self.now node) }
+        ensures depth { result ≡ length (strokes_of self.now node) }
+        ensures short { result ≤ 64 }
     {
         u32::from(self.depths[node as usize])
     }

@@ -19,4 +19,4 @@ rows_of-requires-clause-below c = subst (λ (xs : List ℕ). All (λ p. p < leng
 pub invariant_of-result : goal.invariant_of-result
 invariant_of-result c =
     trie_made _ c.args.entries.now _ _ _ _ c.as_slice.result.now c.as_slice-2.result.now _ _ c.tell-longest.ensures.told c.requires.entries c.requires.few (omega (arith, c.count_nodes-count.ensures, c.if-count-gt-MAX_NODES.false))
-    c.in-Ok.ensures.table c.in-Ok.ensures.numbers c.as_slice.ensures.value c.as_slice-2.ensures.value c.in-Ok-rows_of.ensures.long c.in-Ok-rows_of.ensures.rows c.tell-longest.ensures.longest
+    c.in-Ok.ensures.table c.in-Ok.ensures.numbers c.as_slice.ensures.value c.as_slice-2.ensures.value c.in-Ok-rows_of.ensures.long c.in-Ok-rows_of.ensures.rows c.tell-longest.ensures.longest c.tell-longest.ensures.short
