@@ -1,7 +1,6 @@
 -- No node has more strokes than the longest entry.
-use Rattle.std.proofs.Common.{◌≡◌, ℕ, ◌<◌, ◌≤◌, List, [], ◌∷◌, length, take, map, fold, max, get_or, ap, arith, true, Contains, inl, inr, length-take}
+use Rattle.std.proofs.Common.{◌≡◌, ℕ, ◌≤◌, List, [], ◌∷◌, length, map, fold, max, ap, arith, true, Contains, inl, inr, length-take}
 use Rattle.std.proofs.lemmas.List.{get_or_default}
-use Rattle.steno_rules.specs.Outlines.{outline_of}
 use Rattle.steno_rules.specs.Windows.{is_prefix}
 use Rattle.steno_rules.specs.Nodes.{nodes}
 use Rattle.steno_rules.proofs.Lists.{in_cons}

@@ -44,11 +44,18 @@ pub(crate) fn rows_of(
     ensures rows { IfOk result (λ rows. (node : ℕ) → node < length parents.now → get_or rows node [] ≡ kids parents.now strokes.now node (length parents.now)) }
 {
     let counts = count_children(alloc, parents)?;
-    let filled = vec![in alloc; 0u32; parents.len()]?;
     let room = room_for(alloc, counts.as_slice())?;
     let mut rows = zero_rows(room, counts.as_slice());
-    rows.fill(parents, strokes, filled);
+    rows.fill(parents, strokes, zeroed(counts));
     Ok(rows)
+}
+
+/// The same places with a 0 in each.
+fn zeroed(mut counts: Vec<u32>) -> Vec<u32>
+    ensures { result.items ≡ replicate (length counts.items) 0 }
+{
+    counts.fill(0);
+    counts
 }
 
 /// How many children each node has.
