@@ -1,5 +1,5 @@
 -- The first refusal of some files, file by file.
-use Rattle.std.proofs.Common.{ℕ, ◌≡◌, ◌<◌, ◌≤◌, ◌+◌, ◌∙◌, List, [], ◌∷◌, ◌++◌, length, map, take, drop, get_or, ap, sym, refl, arith, subst, Option, Some, None, IfSome, false, true, nat_lt}
+use Rattle.std.proofs.Common.{ℕ, ◌≡◌, ◌<◌, ◌≤◌, ◌+◌, ◌∙◌, List, [], ◌∷◌, ◌++◌, length, take, drop, get_or, ap, sym, refl, arith, Option, Some, None, false, true, nat_lt}
 use Rattle.std.proofs.lemmas.List.{append_assoc, length-map, length-take-le, map-append, take-append-drop, take_more}
 use Rattle.std.proofs.lemmas.Bool.Decides.{nat_tests}
 use Rattle.outside.specs.Files.{Held}

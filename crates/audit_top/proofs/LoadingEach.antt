@@ -1,8 +1,7 @@
 -- What the loop over the dictionaries of a command keeps.
-use Rattle.std.proofs.Common.{ℕ, ◌≡◌, ◌≤◌, ◌<◌, ◌+◌, ◌-◌, ◌∙◌, List, [], ◌∷◌, ◌++◌, map, take, length, get_or, Option, None, Some, IfSome, String, string_bytes, ap, ap₂, Bool, refl, sym, subst, arith, Global, length-append}
+use Rattle.std.proofs.Common.{ℕ, ◌≡◌, ◌≤◌, ◌<◌, ◌+◌, ◌-◌, ◌∙◌, List, [], ◌∷◌, ◌++◌, map, take, length, get_or, Option, None, Some, IfSome, String, string_bytes, ap, ap₂, Bool, sym, subst, arith, Global, length-append}
 use Rattle.std.proofs.lemmas.List.{get_or-map, map-append, take_more}
 use Rattle.outside.specs.Files.{Held, FilesView, FaultAt}
-use Rattle.outside.specs.declared.fault.Way.{Way}
 use Rattle.outside.specs.declared.fault.Way.TheVariants.{Reading}
 use Rattle.dict_json.specs.Dictionaries.{DictionaryView}
 use Rattle.dict_json.specs.Outcomes.{dictionary, dictionary_outcome}
@@ -15,7 +14,7 @@ use Rattle.audit_top.specs.Owing.{FileFailed, name_of}
 use Rattle.audit_top.specs.Loading.{IsCauseOf, IsFileCause, IsOutcomeCause, fault_of_load}
 use Rattle.audit_top.specs.declared.loading.LoadFault.{LoadFault}
 use Rattle.audit_top.specs.declared.loading.LoadFault.TheVariants as of
-use Rattle.audit_top.proofs.FirstFaults.{file_fault-short, bytes_at, accepted-more, refused-here, dictionaries-more}
+use Rattle.audit_top.proofs.FirstFaults.{file_fault-short, accepted-more, refused-here, dictionaries-more}
 
 -- so many files were accepted, and these are their dictionaries
 pub record IsLoading (place : ℕ) (words : List (List ℕ)) (old now : FilesView) (all : List DictionaryView) : Type 0 where

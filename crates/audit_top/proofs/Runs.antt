@@ -1,8 +1,8 @@
 -- What the parts of a run owe.
-use Rattle.std.proofs.Common.{ℕ, ◌≡◌, ◌<◌, ◌≤◌, ◌⊎◌, ◌∙◌, inl, inr, List, [], Bool, true, false, true≢false, length, nat_lt, not, ap, sym, subst, refl, arith, Option, Some, None, IfSome}
+use Rattle.std.proofs.Common.{ℕ, ◌≡◌, ◌<◌, ◌≤◌, ◌⊎◌, ◌∙◌, inl, inr, List, [], true, false, true≢false, length, nat_lt, not, ap, sym, subst, refl, arith, Option, Some, None, IfSome}
 use Rattle.std.specs.Option.{unwrap_or}
 use Rattle.std.proofs.lemmas.Bool.Decides.{nat_tests}
-use Rattle.outside.specs.Files.{Held, FilesView, FaultAt}
+use Rattle.outside.specs.Files.{Held, FilesView}
 use Rattle.outside.specs.Faults.{Rose}
 use Rattle.steno_rules.specs.Nodes.{nodes}
 use Rattle.steno_order.specs.Reading.{strokes_of}
@@ -10,18 +10,18 @@ use Rattle.dict_json.specs.Generated.{generated_text}
 use Rattle.dict_stack.specs.Stacks.{StackView, stack_of, all_outlines, most_entries, most_dictionaries}
 use Rattle.longest_match.specs.declared.pieces.Piece.{Piece}
 use Rattle.longest_match.specs.Pieces.{pieces}
-use Rattle.report.specs.Faults.{Fault, fault_text, not_words, too_many_dictionaries, too_many_entries, too_many_nodes}
+use Rattle.report.specs.Faults.{Fault, not_words, too_many_dictionaries, too_many_entries, too_many_nodes}
 use Rattle.report.specs.Replays.{pieces_text, replay_text}
 use Rattle.report.proofs.SegmentedReplays.{pieces_text-segments}
 use Rattle.audit_top.specs.Commands.{CommandView, replay, generate}
 use Rattle.audit_top.specs.DictFiles.{first_fault, dictionaries_of}
-use Rattle.audit_top.specs.Dues.{Due, Pays, Paid, bytes_of, kinds_of, command_due, fault_due, fault_status, files_due, most_nodes, nodes_due, reads_files, replay_due, stack_due}
-use Rattle.audit_top.specs.Owing.{FileFailed, IsCommandStatus, IsFailure, IsOwed, IsReadingFailure, Owes, dictionaries_in}
+use Rattle.audit_top.specs.Dues.{Due, Pays, bytes_of, kinds_of, command_due, fault_due, fault_status, files_due, most_nodes, nodes_due, reads_files, replay_due, stack_due}
+use Rattle.audit_top.specs.Owing.{IsCommandStatus, IsReadingFailure, Owes}
 use Rattle.audit_top.specs.Loading.{IsCauseOf, fault_of_load}
 use Rattle.audit_top.specs.declared.loading.LoadFault.{LoadFault}
 use Rattle.audit_top.specs.declared.loading.LoadFault.TheVariants as of
 use Rattle.audit_top.specs.declared.status.Status.{Status}
-use Rattle.audit_top.specs.declared.status.Status.TheVariants.{Clean, Conflicts, Words, File, Refused, Limit, Output, Memory, Rejected}
+use Rattle.audit_top.specs.declared.status.Status.TheVariants.{Clean, File, Output, Memory}
 
 -- ---- the stack
 

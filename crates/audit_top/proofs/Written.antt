@@ -1,5 +1,5 @@
 -- What the words of a command are.
-use Rattle.std.proofs.Common.{ℕ, zero, suc, ◌-◌, ◌≡◌, ◌<◌, ◌^◌, List, [], ◌∷◌, Bool, true, false, true≢false, cond, length, All, ap, sym, refl, subst, arith, Option, Some, None, get_or, map, String, string_bytes, string_len, Global}
+use Rattle.std.proofs.Common.{ℕ, zero, suc, ◌-◌, ◌≡◌, ◌<◌, ◌^◌, List, [], ◌∷◌, Bool, true, false, true≢false, cond, length, All, refl, subst, arith, Option, Some, None, map, String, string_bytes, string_len, Global}
 use Rattle.std.specs.Prelude.{option_and_then}
 use Rattle.std.specs.Str.{bytes_eq}
 use Rattle.std.specs.Prelude.{codes}

@@ -4,7 +4,7 @@
 --     reads_files command         whether that depends on the files
 --     Pays due status old new     the run ends with this status, and its text is added to the output `old`, in full or, where the
 --                                 output fails or memory is wanting, in part
-use Rattle.std.specs.Prelude.{ℕ, ◌≡◌, ◌⊎◌, List, [], ◌++◌, Bool, true, false, not, nat_lt, if◌then◌else◌, length, map, take, Option, Some, None, unwrap_or}
+use Rattle.std.specs.Prelude.{ℕ, ◌≡◌, ◌⊎◌, List, [], ◌++◌, Bool, false, not, nat_lt, if◌then◌else◌, length, map, take, Option, Some, None, unwrap_or}
 use Rattle.std.specs.Io.KnownBytes.{append_known}
 use Rattle.outside.specs.Files.{Held}
 use Rattle.steno_rules.specs.Nodes.{nodes}

@@ -6,7 +6,6 @@ ghost use Rattle.outside.specs.Files.{LeavesFiles};
 ghost use Rattle.steno_rules.specs.Nodes.{nodes};
 ghost use Rattle.steno_order.specs.Reading.{strokes_of};
 ghost use Rattle.dict_stack.specs.Stacks.{most_entries};
-ghost use Rattle.outline_trie.specs.Causes.{IsCauseOf as IsTrieCause};
 ghost use Rattle.dict_json.specs.Generated.{generated_text};
 ghost use Rattle.audit_top.specs.Commands.{ForOutline, command_of, command_view, is_valid, replay as replay_of};
 ghost use Rattle.audit_top.specs.Dues.{Due, Pays, command_due, most_nodes, nodes_due, stack_due};
@@ -18,20 +17,27 @@ use crate::status::Status;
 use crate::words::{Command, read_words};
 use dict_json::generated;
 use dict_stack::Stack;
-use longest_match::segment;
 use outline_trie::{Trie, TrieFault};
 use outside::{Files, Sink};
 use report::FaultLine;
 use std::alloc::Global;
 use steno_order::read_strokes;
+use translator::translate;
 
 /// The most dictionaries of a command.
 const MOST_DICTIONARIES: usize = 16;
 
-/// A replay over a stack whose trie was made.
-fn replay_pieces<S: Sink>(alloc: Global, outline: &str, stack: &Stack, out: &mut S) -> Status
+/// A replay over a stack whose trie was made: the strokes are pushed one by one.
+fn replay_pieces<S: Sink>(
+    alloc: Global,
+    outline: &str,
+    stack: &Stack,
+    trie: &Trie,
+    out: &mut S,
+) -> Status
     requires short { length outline.now < 2 ^ 32 }
     requires readable { IsSome (strokes_of outline.now) }
+    requires trie { trie.now ≡ stack.now.outlines }
     requires few { length (nodes stack.now.outlines) ≤ most_nodes }
     ensures pays { Pays (nodes_due (unwrap_or (strokes_of outline.now) []) stack.now) result (S.text out.old) (S.text out.new) }
     ensures status { (result ≡ Status.Clean) ⊎ (result ≡ Status.Output) ⊎ (result ≡ Status.Memory) }
@@ -39,22 +45,11 @@ fn replay_pieces<S: Sink>(alloc: Global, outline: &str, stack: &Stack, out: &mut
     ensures output { result ≡ Status.Output → Rose (S.faults out.old) (S.faults out.new) }
 {
     match read_strokes(alloc, outline) {
-        Ok(strokes) => match segment(alloc, stack.outlines(), &strokes) {
+        Ok(strokes) => match translate(alloc, trie, &strokes) {
             Ok(pieces) => end_replay(alloc, out, stack, &strokes, &pieces),
             Err(_) => end_memory(alloc, out),
         },
         Err(_) => end_memory(alloc, out),
-    }
-}
-
-/// Makes the trie of a stack: whether its entries have few enough beginnings.
-fn make_trie(alloc: Global, stack: &Stack) -> Result<(), TrieFault>
-    ensures ok { OnOk result (length (nodes stack.now.outlines) ≤ most_nodes) }
-    ensures err { IfErr result (IsTrieCause (length (nodes stack.now.outlines))) }
-{
-    match Trie::new(alloc, stack.outlines()) {
-        Ok(_) => Ok(()),
-        Err(fault) => Err(fault),
     }
 }
 
@@ -68,8 +63,8 @@ fn replay_stack<S: Sink>(alloc: Global, outline: &str, stack: &Stack, out: &mut 
     ensures later { S.faults out.old ≤ S.faults out.new }
     ensures output { result ≡ Status.Output → Rose (S.faults out.old) (S.faults out.new) }
 {
-    match make_trie(alloc, stack) {
-        Ok(()) => replay_pieces(alloc, outline, stack, out),
+    match Trie::new(alloc, stack.outlines()) {
+        Ok(trie) => replay_pieces(alloc, outline, stack, &trie, out),
         Err(TrieFault::TooManyNodes { count }) => {
             end_fault(alloc, out, &FaultLine::Nodes { count })
         }

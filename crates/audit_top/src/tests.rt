@@ -100,6 +100,7 @@ const REPLAYS: &str =
 replay S/T/S/K d|d={"S": "s", "T": "t", "K": "k", "S/T/K": "stick"}|0|S "s";T "t";S "s";K "k"
 replay S/H d|d={"S": "s"}|0|S "s";H untranslated
 replay S d|d={}|0|S untranslated
+replay S/S/S d|d={"S": "a", "S/S": "b"}|0|S/S "b";S "a"
 replay S/T/K/P/W d|d={"S": "is", "S/T": "ist", "T/K/P": "tkp", "W": "we", "P/W": "pw"}|0|S/T "ist";K untranslated;P/W "pw"
 replay STKPWHRAO*EUFRPBLGTSDZ d|d={}|0|STKPWHRAO*EUFRPBLGTSDZ untranslated
 replay #STKPWHRAO*EUFRPBLGTSDZ d|d={}|0|12K3W4R50*EU6R7B8G9SDZ untranslated

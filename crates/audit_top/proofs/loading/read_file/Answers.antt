@@ -1,4 +1,3 @@
-use Rattle.std.proofs.Common.{subst, sym}
 use Rattle.dict_json.specs.Outcomes.{dictionary_outcome}
 use Rattle.audit_top.proofs.LoadingEach.{file-cause}
 use Rattle.audit_top.proofs.loading.read_file.Goals as goal

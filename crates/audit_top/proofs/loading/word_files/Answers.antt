@@ -1,4 +1,4 @@
-use Rattle.std.proofs.Common.{◌≡◌, ◌<◌, ◌∙◌, arith, length, map, string_bytes}
+use Rattle.std.proofs.Common.{◌<◌, ◌∙◌, arith, length, map, string_bytes}
 use Rattle.std.proofs.lemmas.List.{length-map}
 use Rattle.audit_top.proofs.LoadingEach.{kinds-turn, word-turn}
 use Rattle.audit_top.proofs.loading.word_files.Goals as goal

@@ -7,7 +7,7 @@ returns-in-Ok-clause-pays g c = pays-nodes c.args.stack.now _ _ _ _ c.requires.f
 
 pub returns-in-Err-TooManyNodes-clause-pays : goal.returns-in-Err-TooManyNodes-clause-pays
 returns-in-Err-TooManyNodes-clause-pays g c =
-    let cause = rw c.in-Err-TooManyNodes.field-0-is at c.in-Err-TooManyNodes.ensures.err in
+    let cause = rw (c.in-Err-TooManyNodes.field-0-is, c.outlines.ensures.outlines) at c.in-Err-TooManyNodes.ensures.cause in
     pays-many_nodes c.args.stack.now _ c.in-Err-TooManyNodes.count _ _ _ c.requires.few cause.1 cause.0 c.end_fault.ensures.pays
 
 pub returns-in-Err-Memory-clause-pays : goal.returns-in-Err-Memory-clause-pays
