@@ -1,0 +1,4 @@
+pub mod EndLemmas
+pub mod AdvanceLemmas
+pub mod PushLemmas
+pub mod CollectLemmas
