@@ -1,9 +1,9 @@
 -- The ends while they take one stroke more, first one first.
-use Rattle.std.proofs.Common.{◌≡◌, ℕ, zero, suc, ◌+◌, ◌<◌, ◌≤◌, List, [], ◌∷◌, ◌++◌, length, take, drop, map, get_or, set, refl, sym, ap, subst, ◌∙◌, arith, inl, inr, Option, Some, None, true, false, append-nil, All, below_more, take_all, length-append}
-use Rattle.std.proofs.lemmas.List.{drop_more, get_or_at, get_or_append_left, get_or_read, length-map, length-take-le, length_push, map-append, take-append-le, take_at, drop_all}
+use Rattle.std.proofs.Common.{◌≡◌, ℕ, ◌+◌, ◌<◌, ◌≤◌, List, [], ◌∷◌, ◌++◌, length, take, drop, map, get_or, set, sym, ap, subst, ◌∙◌, arith, inl, inr, Option, Some, None, true, false, append-nil, below_more, take_all}
+use Rattle.std.proofs.lemmas.List.{drop_more, get_or_at, get_or_append_left, length-map, length-take-le, length_push, map-append, take-append-le, take_at, drop_all}
 use Rattle.std.proofs.lemmas.List.Edits.{map_over_more}
 use Rattle.outline_trie.specs.Tries.{child_of}
-use Rattle.translator.specs.Ends.{IsEnd, IsAdvance, grown, is_entry_end}
+use Rattle.translator.specs.Ends.{IsAdvance, grown, is_entry_end}
 
 -- the ends before a place have grown, and none of them is an entry
 pub record IsGrowing (entries : List (List ℕ)) (code : ℕ) (old now : List (Option ℕ)) (place : ℕ) : Type 0 where

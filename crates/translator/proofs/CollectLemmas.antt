@@ -1,12 +1,12 @@
 -- The list of pieces, as each push changes it.
-use Rattle.std.proofs.Common.{◌≡◌, ℕ, ◌+◌, ◌-◌, ◌<◌, ◌≤◌, List, [], ◌∷◌, ◌++◌, length, take, get_or, refl, sym, ap, subst, ◌∙◌, arith, length-append}
-use Rattle.std.proofs.lemmas.List.{length-map, length-take-le, take_at, take_more}
+use Rattle.std.proofs.Common.{◌≡◌, ℕ, ◌-◌, ◌≤◌, List, [], ◌∷◌, ◌++◌, length, take, sym, ap, ◌∙◌, arith, length-append}
+use Rattle.std.proofs.lemmas.List.{length-map, length-take-le, take_at}
 use Rattle.longest_match.specs.declared.pieces.Piece.{Piece}
 use Rattle.longest_match.specs.Pieces.{piece_of, pieces as pieces_of}
 use Rattle.steno_rules.specs.Segments.{segments}
 use Rattle.translation_laws.proofs.WindowEnds.{segments-few}
 use Rattle.translator.specs.declared.translator.Merge.{Merge}
-use Rattle.translator.specs.Translations.{Translation, IsMerge}
+use Rattle.translator.specs.Translations.{IsMerge}
 
 -- As many pieces stand there as are replaced.
 pub replaced_fits : (old new : List Piece) (merge : Merge) → IsMerge old new merge → merge.replaced ≤ length old

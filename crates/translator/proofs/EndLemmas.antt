@@ -1,19 +1,16 @@
 -- The ends of pieces: what each of them tells, and what becomes of them by one more stroke.
-use Rattle.std.proofs.Common.{◌≡◌, ℕ, zero, suc, ◌+◌, ◌<◌, ◌≤◌, List, [], ◌∷◌, ◌++◌, length, take, drop, map, get_or, refl, sym, ap, subst, ◌∙◌, arith, ◌⊎◌, inl, inr, Option, Some, None, Contains, Bool, true, false, true≢false, cond, not, is_some, nat_eq, nat_lt, ◌||◌, append_assoc, append-nil, add-one, All}
+use Rattle.std.proofs.Common.{◌≡◌, ℕ, zero, suc, ◌+◌, ◌<◌, ◌≤◌, List, [], ◌∷◌, ◌++◌, length, take, drop, map, get_or, refl, sym, ap, ◌∙◌, arith, ◌⊎◌, inl, inr, Option, Some, None, Bool, true, false, true≢false, cond, not, is_some, nat_eq, nat_lt, ◌||◌, append_assoc, append-nil}
 use Prim.Native.Nat.compare
 use Rattle.std.specs.List.{concat, list_any, position, position_or_len, AllByRecursion}
 use Rattle.std.specs.Cmp.Lexicographic.{pointwise}
 use Rattle.std.proofs.lemmas.Bool.Decides.{Decides-ltb}
 use Rattle.std.proofs.lemmas.List.{get_or_default}
-use Rattle.std.proofs.lemmas.List.Elements.{All-from_recursion}
 use Rattle.longest_match.specs.Pieces.{piece_of}
-use Rattle.outline_trie.specs.Tries.{child_of, strokes_of}
 use Rattle.outline_trie.proofs.LookLemmas.{front_none, number_there, root_is, root_number}
 use Rattle.steno_rules.specs.Live.{merge}
 use Rattle.steno_rules.specs.Nodes.{nodes}
-use Rattle.steno_rules.specs.Outlines.{is_entry, number_of, outline_of}
+use Rattle.steno_rules.specs.Outlines.{is_entry, number_of}
 use Rattle.steno_rules.specs.Windows.{is_prefix, window_pieces}
-use Rattle.steno_rules.proofs.Entries.{is_entry-Decides}
 use Rattle.steno_rules.proofs.NodeLemmas.{nodes-Contains}
 use Rattle.steno_rules.proofs.Numbers.{number_of-Some}
 use Rattle.steno_rules.proofs.Prefixes.{apart_entry}

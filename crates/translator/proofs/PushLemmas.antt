@@ -1,15 +1,14 @@
 -- A push: what becomes of the pieces, and that the translator's fields are right again.
-use Rattle.std.proofs.Common.{◌≡◌, ℕ, zero, suc, ◌+◌, ◌-◌, ◌<◌, ◌≤◌, List, [], ◌∷◌, ◌++◌, length, take, drop, map, get_or, refl, sym, ap, subst, ◌∙◌, arith, ◌⊎◌, inl, inr, Option, Some, None, true, false, append_assoc, append-nil, add-one, All, length-append}
+use Rattle.std.proofs.Common.{◌≡◌, ℕ, ◌+◌, ◌-◌, ◌≤◌, List, [], ◌∷◌, ◌++◌, length, take, drop, map, get_or, sym, ap, subst, ◌∙◌, arith, ◌⊎◌, inl, inr, Option, Some, None, true, append_assoc, append-nil, add-one, All}
 use Rattle.std.specs.List.{concat}
-use Rattle.std.proofs.lemmas.List.{get_or_read, length_push, length-map, length-take-le, length-drop, map-append, take-map, take_at, drop_all, drop-map, take-append-drop}
+use Rattle.std.proofs.lemmas.List.{get_or_read, length_push, length-map, length-take-le, length-drop, map-append, take-map, drop_all, drop-map, take-append-drop}
 use Rattle.std.proofs.lemmas.List.Elements.{All-from_recursion}
 use Rattle.longest_match.specs.declared.pieces.Piece.{Piece}
 use Rattle.longest_match.specs.Pieces.{piece_of, pieces as pieces_of}
 use Rattle.outline_trie.specs.Tries.{longest_of}
 use Rattle.outline_trie.proofs.DepthLemmas.{prefix_short}
 use Rattle.steno_rules.specs.Live.{merge}
-use Rattle.steno_rules.specs.Nodes.{nodes}
-use Rattle.steno_rules.specs.Outlines.{is_entry, number_of}
+use Rattle.steno_rules.specs.Outlines.{is_entry}
 use Rattle.steno_rules.specs.Segments.{segments}
 use Rattle.steno_rules.specs.Windows.{is_prefix, window, window_pieces}
 use Rattle.steno_rules.proofs.Prefixes.{is_prefix-entry}
@@ -43,6 +42,7 @@ module _ (entries : List (List ℕ)) (x : List ℕ) (c place : ℕ) (old ends : 
   old_long : length old ≡ length (pieces_now entries x)
   old_long = ap length is ∙ length-ends_of entries (pieces_now entries x)
 
+  -- the place is that of a piece, or follows them all
   pub place_within : place ≤ length (pieces_now entries x)
   place_within = omega (arith, a.inside, length_push old (Some 0), old_long)
 
@@ -70,6 +70,7 @@ module _ (entries : List (List ℕ)) (x : List ℕ) (c place : ℕ) (old ends : 
       a.grew ∙ ap (λ l. map (grown entries c) (take (place + 1) (l ++ Some 0 ∷ []))) is
       ∙ rw add-one (ends_after entries (pieces_now entries x) c place place_within)
 
+  -- the ends are kept up to that place
   pub new_long : length ends ≡ place + 1
   new_long = ap length ends_new ∙ length-ends_of entries (take place (pieces_now entries x) ++ made ∷ []) ∙ length_push (take place (pieces_now entries x)) made
       ∙ ap (λ n. n + 1) (length-take-le place (pieces_now entries x) place_within)

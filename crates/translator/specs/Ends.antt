@@ -7,7 +7,7 @@
 --     IsAdvance entries code old new place        one stroke more, up to the first end that is an entry, or the last one
 --     lost ends                                   how many ends at the front are no nodes
 --     IsTranslator ..                             what the fields of a translator have in common
-use Rattle.std.specs.Prelude.{ℕ, ◌≡◌, ◌+◌, ◌<◌, ◌≤◌, ◌++◌, ◌∷◌, [], ◌⊎◌, Bool, true, false, List, Option, Some, None, ⊤, get_or, is_some, length, map, take}
+use Rattle.std.specs.Prelude.{ℕ, ◌≡◌, ◌+◌, ◌<◌, ◌≤◌, ◌∷◌, [], ◌⊎◌, Bool, true, false, List, Option, Some, None, ⊤, get_or, is_some, length, map, take}
 use Rattle.std.specs.List.{concat, position_or_len}
 use Rattle.longest_match.specs.declared.pieces.Piece.{Piece}
 use Rattle.longest_match.specs.Pieces.{piece_of, pieces as pieces_of}

@@ -1,6 +1,6 @@
-use Rattle.std.proofs.Common.{◌≡◌, sym, ◌∙◌, arith}
+use Rattle.std.proofs.Common.{sym, ◌∙◌, arith}
 use Rattle.outline_trie.proofs.LookLemmas.{root_inside}
-use Rattle.translator.proofs.AdvanceLemmas.{advance_entry, advance_alone, growing_more}
+use Rattle.translator.proofs.AdvanceLemmas.{advance_entry, growing_more}
 use Rattle.translator.proofs.ends.advance.Goals as goal
 
 pub returns-then-is_entry-clause-advance : goal.returns-then-is_entry-clause-advance

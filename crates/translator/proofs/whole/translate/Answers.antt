@@ -1,4 +1,4 @@
-use Rattle.std.proofs.Common.{◌≡◌, ◌<◌, IfOk, length, sum_by, All, IfSome, sym, subst}
+use Rattle.std.proofs.Common.{◌≡◌, ◌<◌, length, sum_by, All, IfSome, sym, subst}
 use Rattle.std.proofs.lemmas.Result.{IfOk-weaker}
 use Rattle.longest_match.proofs.PieceFacts.{pieces-lengths, pieces-numbers}
 use Rattle.longest_match.specs.declared.pieces.Piece.{Piece}

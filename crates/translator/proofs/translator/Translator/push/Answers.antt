@@ -1,6 +1,6 @@
-use Rattle.std.proofs.Common.{◌≡◌, ℕ, ◌+◌, ◌-◌, ◌<◌, ◌≤◌, ◌++◌, ◌∷◌, [], length, get_or, drop, ap, sym, subst, ◌∙◌, arith, reverse}
+use Rattle.std.proofs.Common.{◌-◌, ◌++◌, ◌∷◌, [], length, drop, ap, subst, ◌∙◌, arith, reverse}
 use Rattle.std.proofs.lemmas.Grind.{reverse_onto}
-use Rattle.std.proofs.lemmas.List.{get_or_read, length-map, length_push, length-take-le}
+use Rattle.std.proofs.lemmas.List.{length-map}
 use Rattle.longest_match.specs.Pieces.{piece_of, pieces as pieces_of}
 use Rattle.outline_trie.specs.Tries.{longest_of}
 use Rattle.translator.specs.Ends.{lost}
