@@ -1,19 +1,18 @@
 -- The columns as they grow: a row at a time, and a level of nodes at a time.
-use Rattle.std.proofs.Common.{true, ◌≡◌, ◌≢◌, ℕ, ◌+◌, ◌-◌, ◌<◌, ◌≤◌, List, [], ◌∷◌, ◌++◌, length, take, drop, map, get_or, set, replicate, refl, sym, ap, ap₂, subst, ◌∙◌, arith, ◌⊎◌, inl, inr, Option, Some, None, Contains, length-append, get_or-set_other, get_or-set_same, length-set}
+use Rattle.std.proofs.Common.{true, ◌≡◌, ◌≢◌, ℕ, ◌+◌, ◌<◌, ◌≤◌, List, [], ◌∷◌, ◌++◌, length, take, map, get_or, set, replicate, refl, sym, ap, subst, ◌∙◌, arith, ◌⊎◌, inl, inr, Some, Contains, get_or-set_other, get_or-set_same, length-set}
 use Rattle.std.proofs.lemmas.Bool.{cases_lt, cases_order}
 use Rattle.std.proofs.lemmas.List.{get_or-replicate, length-replicate, length_push, get_or_default, take_more, take_all}
 use Rattle.std.proofs.lemmas.List.Elements.{Contains-append_cases, Contains-append_left, Contains-append_right}
-use Rattle.steno_rules.specs.Outlines.{outline_of}
 use Rattle.steno_rules.specs.Windows.{is_prefix}
 use Rattle.steno_rules.specs.Nodes.{nodes}
 use Rattle.steno_rules.proofs.Lists.{none_in_nil, in_one, in_first, in_map, in_map_of, unsnoc}
 use Rattle.steno_rules.proofs.NodeLemmas.{nodes-Contains}
 use Rattle.steno_rules.proofs.Prefixes.{is_prefix-front}
 use Rattle.outline_trie.specs.Tries.{IsNode, strokes_of, child_of, AreChildren, longest_of}
-use Rattle.outline_trie.proofs.LookLemmas.{root_is, root_inside, number_there}
+use Rattle.outline_trie.proofs.LookLemmas.{root_is, root_inside}
 use Rattle.outline_trie.proofs.DepthLemmas.{node_short}
 use Rattle.match_window.specs.Rows.{IsNodeOf, IsRow, IsSettled, SettledBelow, AreLong, AreColumns, IsChild, IsLevel}
-use Rattle.match_window.proofs.RowLemmas.{root_node, node_some, child_is, child_there, row_root}
+use Rattle.match_window.proofs.RowLemmas.{node_some, child_is, child_there, row_root}
 
 -- ---- a row at a time
 
@@ -122,9 +121,12 @@ front_of entries (c ∷ x) node n is long = by (unsnoc c x)
     by (y, d, split) =
         let begins : is_prefix entries (c ∷ x) ≡ true = (nodes-Contains entries (c ∷ x)).0 (node, is.inside, get_or_default (nodes entries) node (c ∷ x) [] is.inside ∙ is.is) in
         let there = (nodes-Contains entries y).1 (is_prefix-front entries y (d ∷ []) (subst (λ u. is_prefix entries u ≡ true) split begins)) in
-        let same : strokes_of entries there.0 ≡ y = get_or_default (nodes entries) there.0 [] y there.1 ∙ there.2 in
-        (there.0, there.1, omega (arith, ap length same, ap length split, length_push y d, long),
-          (d, child_there entries there.0 d node (record { inside = is.inside; is = is.is ∙ split ∙ ap (λ u. u ++ d ∷ []) (sym same) })))
+        let same : strokes_of entries there.0 ≡ y = get_or_default (nodes entries) there.0 [] y there.1 ∙ there.2 in (
+          there.0,
+          there.1,
+          omega (arith, ap length same, ap length split, length_push y d, long),
+          (d, child_there entries there.0 d node (record { inside = is.inside; is = is.is ∙ split ∙ ap (λ u. u ++ d ∷ []) (sym same) })),
+        )
 
 pub listing_all : (entries : List (List ℕ)) (level : List ℕ) (count : ℕ) (below : List ℕ) (n : ℕ) → Listing entries level count below → length level ≤ count → IsLevel entries level n → IsLevel entries below (n + 1)
 listing_all entries level count below n h all l = record {

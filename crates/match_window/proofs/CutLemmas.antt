@@ -1,13 +1,13 @@
 -- Where pieces start: those of the front without the last piece, and the last piece's start. And the walk up to that front.
-use Rattle.std.proofs.Common.{◌≡◌, ◌≢◌, ℕ, ◌+◌, ◌-◌, ◌*◌, ◌^◌, ◌%◌, ◌<◌, ◌≤◌, List, [], ◌∷◌, ◌++◌, length, take, drop, set, refl, sym, ap, ap₂, subst, ◌∙◌, arith, ◌⊎◌, ◌↔◌, inl, inr, Option, Some, None, max, length-append, append_assoc, append-nil, take_at, bit_or, bit_and, IsBitSet}
+use Rattle.std.proofs.Common.{◌≡◌, ◌≢◌, ℕ, ◌+◌, ◌-◌, ◌*◌, ◌^◌, ◌%◌, ◌<◌, ◌≤◌, List, [], ◌∷◌, ◌++◌, length, take, drop, set, refl, sym, ap, subst, ◌∙◌, arith, ◌⊎◌, ◌↔◌, inl, inr, Option, Some, None, length-append, append_assoc, append-nil, take_at, bit_or, IsBitSet}
 use Rattle.std.specs.Prelude.{option_map, unwrap_or, MatchOption}
 use Rattle.std.specs.List.{concat}
 use Rattle.std.specs.Int.{bit_at}
 use Rattle.std.proofs.Common.{w64}
-use Rattle.std.proofs.lemmas.Bool.{cases_lt, cases_order}
+use Rattle.std.proofs.lemmas.Bool.{cases_order}
 use Rattle.std.proofs.lemmas.Nat.{pow_pos}
 use Rattle.std.proofs.lemmas.Nat.Bits.{and_pow, bit_at-lt, bit_at_set_same, bit_at_set_other, bit_at-zero}
-use Rattle.std.proofs.lemmas.List.{take-take, drop-set, length_push, length-take}
+use Rattle.std.proofs.lemmas.List.{take-take, drop-set, length-take}
 use Rattle.std.proofs.lemmas.List.Folds.{concat-append}
 use Rattle.std.proofs.Math.Seq.{take-set-lt}
 use Rattle.longest_match.specs.Pieces.{piece_of}
@@ -15,9 +15,8 @@ use Rattle.longest_match.specs.declared.pieces.Piece.{Piece}
 use Rattle.steno_rules.specs.Segments.{segments, last_piece}
 use Rattle.steno_rules.proofs.Lists.{two_cuts}
 use Rattle.steno_rules.proofs.SegmentLemmas.{concat-segments, last_piece-short, cons_some}
-use Rattle.translation_laws.specs.Pieces.{HasPiece}
 use Rattle.translation_laws.proofs.FrontLemmas.{segments-front, last_or-split}
-use Rattle.outline_trie.specs.Tries.{IsNode, strokes_of, IsParent, IsLast}
+use Rattle.outline_trie.specs.Tries.{IsNode, strokes_of, IsParent}
 use Rattle.outline_trie.proofs.LookLemmas.{root_is, root_inside}
 use Rattle.match_window.specs.Ends.{StartsPiece}
 use Rattle.match_window.proofs.EndLemmas.{last_long, last_found}
@@ -60,12 +59,15 @@ starts_split entries x p i is =
       ],
       λ h. elim h [
         | inl last ↦ (p, record { before = qs; after = []; split = found.1; start = found.2 ∙ sym last })
-        | inr front ↦ (front.0, record {
-          before = front.1.before;
-          after = front.1.after ++ p ∷ [];
-          split = found.1 ∙ ap (λ l. l ++ p ∷ []) (sym found.3 ∙ front.1.split) ∙ append_assoc front.1.before (front.0 ∷ front.1.after) (p ∷ []);
-          start = front.1.start;
-        })
+        | inr front ↦ (
+          front.0,
+          record {
+            before = front.1.before;
+            after = front.1.after ++ p ∷ [];
+            split = found.1 ∙ ap (λ l. l ++ p ∷ []) (sym found.3 ∙ front.1.split) ∙ append_assoc front.1.before (front.0 ∷ front.1.after) (p ∷ []);
+            start = front.1.start;
+          },
+        )
       ],
     )
 

@@ -1,19 +1,18 @@
 -- The shorter end and the last entry of a list with one more stroke, by those of the list.
-use Rattle.std.proofs.Common.{◌≡◌, ◌≢◌, ℕ, ◌+◌, ◌-◌, ◌<◌, ◌≤◌, List, [], ◌∷◌, ◌++◌, length, take, drop, refl, sym, ap, subst, ◌∙◌, arith, Bool, true, false, true≢false, cond, append_assoc, append-nil, length-append, length-drop, inl, inr, Option, Some, None, Contains}
+use Rattle.std.proofs.Common.{◌≡◌, ◌≢◌, ℕ, ◌<◌, ◌≤◌, List, [], ◌∷◌, ◌++◌, length, drop, refl, sym, ap, ◌∙◌, arith, Bool, true, false, true≢false, cond, length-append, length-drop, inl, inr, Option, Some, None}
 use Rattle.std.specs.Prelude.{option_map}
 use Rattle.std.specs.List.{concat, last_or}
 use Rattle.std.proofs.lemmas.List.{drop_all, length_push, get_or_default}
 use Rattle.longest_match.specs.Pieces.{piece_of}
-use Rattle.longest_match.specs.declared.pieces.Piece.{Piece}
 use Rattle.steno_rules.specs.Outlines.{is_entry, number_of}
 use Rattle.steno_rules.specs.Segments.{first_piece, segments, last_piece}
 use Rattle.steno_rules.specs.Live.{merge}
 use Rattle.steno_rules.specs.Windows.{is_prefix, window_pieces, window}
 use Rattle.steno_rules.proofs.Entries.{is_entry-Decides}
 use Rattle.steno_rules.proofs.Prefixes.{is_prefix-entry, apart_entry}
-use Rattle.steno_rules.proofs.SegmentLemmas.{segments_step, concat-segments, first_piece-whole, length-first_piece, first_piece-rest, cons_some, length_pos}
-use Rattle.translation_laws.proofs.WindowLemmas.{segments-push, window_pieces-merge, window-push, last_piece-push}
-use Rattle.translation_laws.proofs.WindowEnds.{window-end, window-whole}
+use Rattle.steno_rules.proofs.SegmentLemmas.{segments_step, concat-segments, first_piece-whole, length-first_piece, cons_some, length_pos}
+use Rattle.translation_laws.proofs.WindowLemmas.{segments-push, window-push, last_piece-push}
+use Rattle.translation_laws.proofs.WindowEnds.{window-end}
 use Rattle.translation_laws.proofs.LastPieces.{last_piece-window, last_piece-in_window}
 use Rattle.translation_laws.proofs.FrontLemmas.{last_or-split}
 use Rattle.translation_laws.proofs.PieceLemmas.{pieces-are, piece-some}

@@ -69,13 +69,15 @@ impl Columns {
         if trie.entry(node).is_some() {
             return (0, node);
         }
-        match (trie.parent(node), trie.last(node)) {
-            (Some(parent), Some(stroke)) if parent != 0 => {
-                let end = self.next(trie, self.shorter[parent as usize], stroke);
-                (end, self.pieces[end as usize])
-            }
-            _ => (0, 0),
+        let Some(stroke) = trie.last(node) else {
+            return (0, 0);
+        };
+        let parent = trie.parent(node).unwrap_or(0);
+        if parent == 0 {
+            return (0, 0);
         }
+        let end = self.next(trie, self.shorter[parent as usize], stroke);
+        (end, self.pieces[end as usize])
     }
 
     /// The window of a node's strokes and one more: the first child by that stroke along the node's chain of ends.

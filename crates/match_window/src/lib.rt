@@ -11,6 +11,8 @@
 
 mod columns;
 mod levels;
+#[cfg(test)]
+mod tests;
 mod windows;
 
 pub use windows::{Advance, Windows};

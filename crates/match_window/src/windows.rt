@@ -104,7 +104,11 @@ impl Windows<'_> {
     }
 
     /// A node's strokes. They are found from the last one up.
-    pub fn window_strokes(&self, alloc: Global, node: u32) -> Result<SmallVec<Stroke, 8, Global>, AllocError>
+    pub fn window_strokes(
+        &self,
+        alloc: Global,
+        node: u32,
+    ) -> Result<SmallVec<Stroke, 8, Global>, AllocError>
         requires { IsNode self.now node }
         ensures { IfOk result (λ strokes. strokes.items ≡ strokes_of self.now node) }
     {

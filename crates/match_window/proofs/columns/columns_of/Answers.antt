@@ -1,4 +1,4 @@
-use Rattle.std.proofs.Common.{◌+◌, ◌≡◌, ◌++◌, ◌∷◌, [], ℕ, List, replicate, ap, subst, ◌∙◌, arith, Contains, sym, length, Vec, Global}
+use Rattle.std.proofs.Common.{◌+◌, ◌≡◌, ◌++◌, ◌∷◌, [], ℕ, List, replicate, ap, subst, ◌∙◌, arith, Contains, sym, Vec, Global}
 use Rattle.match_window.specs.Rows.{IsLevel, IsSettled}
 use Rattle.match_window.proofs.ColumnLemmas.{growing_start, growing_before, growing_more, growing_all}
 use Rattle.match_window.proofs.columns.columns_of.Goals as goal
