@@ -78,21 +78,19 @@ window_none entries c apart = ap (λ ps. concat (window_pieces entries ps)) (seg
 
 -- ---- the shorter end
 
--- The shorter end of the empty list is empty,
-pub end_none : (entries : List (List ℕ)) → shorter_end entries [] ≡ []
-end_none entries = refl
-
--- and so is that of one piece alone.
+-- an entry is one piece
 one_piece : (entries : List (List ℕ)) (x : List ℕ) → is_entry entries x ≡ true → x ≢ [] → segments entries x ≡ x ∷ []
 one_piece entries x has some =
     let whole : first_piece entries x ≡ x = first_piece-whole entries x ((is_entry-Decides entries x).0 has) in
     segments_step entries x some ∙ ap (λ p. p ∷ segments entries (drop (length p) x)) whole
     ∙ ap (λ y. x ∷ segments entries y) (drop_all (length x) x (omega arith))
 
+-- The shorter end of an entry is empty,
 pub end_entry : (entries : List (List ℕ)) (x : List ℕ) → is_entry entries x ≡ true → shorter_end entries x ≡ []
 end_entry entries [] has = refl
 end_entry entries (c ∷ x) has = ap (λ ps. concat (window_pieces entries (drop 1 ps))) (one_piece entries (c ∷ x) has (cons_some c x))
 
+-- and so is that of one stroke.
 pub end_one : (entries : List (List ℕ)) (c : ℕ) → shorter_end entries ([] ++ c ∷ []) ≡ []
 end_one entries c = ap (λ ps. concat (window_pieces entries (drop 1 ps))) (segments-push entries [] c)
 

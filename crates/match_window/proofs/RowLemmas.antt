@@ -219,6 +219,7 @@ module _ (entries : List (List ℕ)) where
     pub end : IsNodeOf entries (shorter_end entries (strokes_of entries parent)) shorter
     pub far : length (strokes_of entries shorter) + 1 < length (strokes_of entries node)
 
+  -- There the chain starts at a settled node.
   pub start_of : (ends pieces : List ℕ) (node code parent shorter : ℕ) (o : Option ℕ) → AreLong entries ends pieces → IsNode entries node → SettledBelow entries ends pieces (length (strokes_of entries node)) →
       MatchOption o (node ≡ 0) (IsParent entries node) → parent ≡ unwrap_or o 0 → (parent ≡ 0 → ⊥) → IsLast entries node code → shorter ≡ get_or ends parent shorter → IsStart node parent code shorter
   start_of ends pieces node code parent shorter None long inside below root is other last read = absurd (other is)

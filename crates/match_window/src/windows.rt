@@ -133,7 +133,7 @@ fn above(trie: &Trie, node: u32, levels: u32) -> u32
     ensures strokes { strokes_of trie.now result ≡ take (length (strokes_of trie.now node) - levels) (strokes_of trie.now node) }
 {
     let mut end = node;
-    for level in 0..levels {
+    for _ in 0..levels {
         end = trie.parent(end).unwrap_or(0);
     }
     end
