@@ -1,10 +1,11 @@
 //! A list of strokes, as a dictionary translates it.
 
-ghost use Rattle.std.specs.Prelude.{◌≡◌, ◌<◌, ◌≤◌, [], ◌∷◌, ◌++◌, length, OnOk, OnErr, IfOk};
+ghost use Rattle.std.specs.Prelude.{◌≡◌, ◌<◌, ◌≤◌, [], ◌∷◌, ◌++◌, length, slice_index_or, OnOk, OnErr, IfOk};
 ghost use Rattle.std.specs.Prelude.{nat_eq, refl, Some};
 ghost use Rattle.std.specs.Cmp.{partial_equiv_from_equiv};
 ghost use Rattle.std.specs.Cmp.Lexicographic.{nat_list_cmp_total, nat_list_eq_equiv, pointwise, texts_po, texts_ties};
 ghost use Rattle.steno_rules.specs.Outlines.{outline_cmp};
+ghost use Rattle.stroke.specs.Heads.{IsCodeAt, IsHead};
 
 use crate::strokes::Stroke;
 use std::alloc::{AllocError, Global};
@@ -14,19 +15,41 @@ use std::marker::Model;
 /// A list of at most 64 strokes, seen as the list of their codes. Outlines are ordered stroke by stroke, a prefix first.
 ///
 /// An entry of a dictionary has at least one stroke. The type has room for the empty list, with which building begins.
+/// Beside the list the first two strokes stand as one number: it decides most comparisons without a look at the list.
 #[derive(Debug, Drop)]
 pub struct Outline {
     strokes: Vec<Stroke>,
+    head: u64,
 }
 
 impl Model for Outline {
-    ghost use Rattle.std.specs.Prelude.{ℕ, List, length, ◌≤◌};
+    ghost use Rattle.std.specs.Prelude.{ℕ, List};
+    ghost use Rattle.stroke.specs.Heads.{IsOutline};
 
     ghost Value = { List ℕ };
 
     ghost view = { λ o. o.strokes.items };
 
-    ghost invariant = { λ o. length o.strokes.items ≤ 64 };
+    ghost invariant = { λ o. IsOutline o.strokes.items o.head };
+}
+
+/// The code at a place of some strokes, 0 behind their end.
+fn code_at(strokes: &[Stroke], place: usize) -> u64
+    ensures code { result ≡ slice_index_or strokes.now place 0 }
+    ensures is { IsCodeAt strokes.now place }
+{
+    if place < strokes.len() {
+        u64::from(strokes[place].code())
+    } else {
+        0
+    }
+}
+
+/// The first two strokes as one number.
+fn head_of(strokes: &[Stroke]) -> u64
+    ensures { IsHead strokes.now result }
+{
+    code_at(strokes, 0) * (1 << 32) + code_at(strokes, 1)
 }
 
 impl Outline {
@@ -39,6 +62,7 @@ impl Outline {
     {
         Outline {
             strokes: Vec::new(alloc),
+            head: 0,
         }
     }
 
@@ -49,6 +73,7 @@ impl Outline {
         ensures err { OnErr result (self.new ≡ self.old) }
     {
         self.strokes.push(stroke)?;
+        self.head = head_of(&self.strokes);
         Ok(())
     }
 
@@ -59,6 +84,7 @@ impl Outline {
     {
         Ok(Outline {
             strokes: strokes.to_vec(alloc)?,
+            head: head_of(strokes),
         })
     }
 
@@ -76,6 +102,7 @@ impl Outline {
     {
         Ok(Outline {
             strokes: self.strokes.clone()?,
+            head: self.head,
         })
     }
 }
@@ -86,7 +113,7 @@ impl PartialEq for Outline {
     ghost laws = { partial_equiv_from_equiv nat_list_eq_equiv };
 
     fn eq(&self, other: &Outline) -> bool {
-        self.strokes == other.strokes
+        self.head == other.head && self.strokes == other.strokes
     }
 }
 
@@ -114,6 +141,9 @@ impl Ord for Outline {
     ghost matches_eq = { texts_ties };
 
     fn cmp(&self, other: &Outline) -> Ordering {
-        self.strokes.cmp(&other.strokes)
+        match self.head.cmp(&other.head) {
+            Ordering::Equal => self.strokes.cmp(&other.strokes),
+            order => order,
+        }
     }
 }
