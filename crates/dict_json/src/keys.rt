@@ -1,6 +1,6 @@
 //! The keys of a file, collected one by one in order of their bytes.
 
-ghost use Rattle.std.specs.Prelude.{◌≡◌, ◌<◌, ◌≤◌, ◌∷◌, ◌++◌, ◌^◌, [], List, length, string_bytes, OnOk, Some};
+ghost use Rattle.std.specs.Prelude.{◌≡◌, ◌<◌, ◌≤◌, ◌∷◌, ◌++◌, ◌^◌, [], List, length, string_bytes, IfOk, OnOk, Some};
 ghost use Rattle.std.specs.Option.{option_or};
 ghost use Rattle.dict_json.specs.Reading.{Keyed};
 ghost use Rattle.dict_json.specs.Walks.{walked};
@@ -32,15 +32,15 @@ impl Model for Keys {
 }
 
 impl Keys {
-    /// No keys.
-    pub(crate) fn new(alloc: Global) -> Keys
-        ensures { result ≡ walked [] }
+    /// No keys, with places for so many entries.
+    pub(crate) fn with_capacity(alloc: Global, count: usize) -> Result<Keys, AllocError>
+        ensures { IfOk result (λ keys. keys ≡ walked []) }
     {
-        Keys {
-            entries: Vec::new(alloc),
+        Ok(Keys {
+            entries: Vec::with_capacity(alloc, count)?,
             skipped: Vec::new(alloc),
             too_long: None,
-        }
+        })
     }
 
     /// Adds a key with its text, both of which are moved.

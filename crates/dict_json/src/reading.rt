@@ -34,7 +34,9 @@ fn walk(alloc: Global, map: Map<String, Value>) -> Result<Keys, DictFault>
     ensures keys { IfOk result (λ keys. keys ≡ walked (filter_map keyed (members_of (members_view map.entries)))) }
     ensures err { IfErr result (IsCauseOf (object_outcome (Some (members_view map.entries)))) }
 {
-    let mut keys = Keys::new(alloc);
+    let Ok(mut keys) = Keys::with_capacity(alloc, map.len()) else {
+        return Err(DictFault::Memory);
+    };
     for (key, value) in map {
         match value {
             Value::String(text) => {

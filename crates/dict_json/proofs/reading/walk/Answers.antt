@@ -18,8 +18,8 @@ loop-key-preserved c =
     let text = ap (λ v. record { name = string_bytes c.in-Some.key; value = v } ∷ members_of (members_view c.next.new.self)) (ap view c.in-String.is ∙ view-String c.in-String.text) in
     walking_more _ _ _ (string_bytes c.in-Some.key) (string_bytes c.in-String.text) c.loop-key.keys c.add.new.self (next ∙ text) c.loop-key.invariant (when_ok c.add.result _ c.if-is_err.ensures.value c.add.ensures)
 
-pub returns-in_default : goal.returns-in_default
-returns-in_default c =
+pub returns-in_default-value : goal.returns-in_default-value
+returns-in_default-value c =
     let next = ap (λ es. members_of (members_view es)) (rest_more (λ x. x) _ _ _ _ c.in-Some.is c.next.ensures.steps) in
-    let other = c.in_default.not-String in
-    record { texts = tt; keys = tt; err = walking_refused _ _ _ _ c.loop-key.keys next c.loop-key.invariant (no_text (string_bytes c.in-Some.key) c.in-Some.value c.in_default.not-String) ∙ ap not_text (sym c.new.ensures) }
+    let other = c.in_default-value.not-String in
+    record { texts = tt; keys = tt; err = walking_refused _ _ _ _ c.loop-key.keys next c.loop-key.invariant (no_text (string_bytes c.in-Some.key) c.in-Some.value c.in_default-value.not-String) ∙ ap not_text (sym c.new.ensures) }
