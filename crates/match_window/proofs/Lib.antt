@@ -1,0 +1,4 @@
+mod EndLemmas
+mod RowLemmas
+mod ColumnLemmas
+mod CutLemmas
