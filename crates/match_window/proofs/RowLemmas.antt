@@ -1,30 +1,20 @@
 -- What a row holds, by the rows of nodes of fewer strokes.
-use Rattle.std.proofs.Common.{◌≡◌, ◌≢◌, ℕ, ◌+◌, ◌<◌, ◌≤◌, List, [], ◌∷◌, ◌++◌, length, get_or, refl, sym, ap, ap₂, subst, ◌∙◌, arith, nat_eq, Bool, true, false, inl, inr, Option, Some, None}
+use Rattle.std.proofs.Common.{◌≡◌, ◌≢◌, ℕ, ◌+◌, ◌<◌, ◌≤◌, List, [], ◌∷◌, ◌++◌, length, get_or, sym, ap, ap₂, subst, ◌∙◌, arith, Bool, true, false, Option, Some, None}
 use Rattle.std.specs.Prelude.{option_map, unwrap_or, MatchOption, is_some}
 use Rattle.std.proofs.lemmas.List.{length_push, get_or_default, get_or_read}
-use Rattle.std.specs.List.{position_or_len}
-use Rattle.std.specs.Cmp.Lexicographic.{pointwise}
-use Rattle.std.proofs.lemmas.Bool.{cases_lt}
-use Rattle.std.proofs.lemmas.Bool.Decides.{Decides-ltb}
-use Rattle.std.proofs.lemmas.List.Sums.{fails_before_first}
-use Rattle.std.proofs.lemmas.List.Folds.{list_any_none}
 use Rattle.longest_match.specs.Pieces.{piece_of}
 use Rattle.steno_rules.specs.Outlines.{is_entry, number_of}
 use Rattle.steno_rules.specs.Segments.{last_piece}
 use Rattle.steno_rules.specs.Windows.{is_prefix, window}
 use Rattle.steno_rules.specs.Nodes.{nodes}
-use Rattle.steno_rules.proofs.Entries.{is_entry-Decides}
 use Rattle.steno_rules.proofs.NodeLemmas.{nodes-Contains, nodes-rising}
-use Rattle.steno_rules.proofs.Numbers.{number_of-Some, outline_of-once}
+use Rattle.steno_rules.proofs.Numbers.{number_of-Some, outline_of-once, number_test}
 use Rattle.translation_laws.proofs.WindowEnds.{window-whole}
 use Rattle.outline_trie.specs.Tries.{IsNode, strokes_of, child_of, IsParent, IsLast}
-use Rattle.outline_trie.proofs.LookLemmas.{root_is, root_inside, number_there}
+use Rattle.outline_trie.proofs.LookLemmas.{root_is, root_inside, number_there, node_test}
 use Rattle.match_window.specs.Ends.{shorter_end}
 use Rattle.match_window.specs.Rows.{last_entry, IsNodeOf, IsRow, IsSettled, SettledBelow, AreLong}
 use Rattle.match_window.proofs.EndLemmas.{window_apart, window_none, window_short, end_entry, end_one, end_more, end_shorter, last_entry-entry, last_entry-one, last_entry-more, piece_lone, piece_entry}
-
-none_some : (n : ℕ) → ◌≡◌ {A = Option ℕ} None (Some n) → ⊥
-none_some n h = cc
 
 module _ (entries : List (List ℕ)) where
   -- ---- nodes
@@ -49,12 +39,9 @@ module _ (entries : List (List ℕ)) where
   node_begins : (x : List ℕ) (node : ℕ) → IsNodeOf entries x node → is_prefix entries x ≡ true
   node_begins x node n = (nodes-Contains entries x).0 (node, n.inside, get_or_default (nodes entries) node x [] n.inside ∙ n.is)
 
-  -- what has no number begins no entry
-  apart : (x : List ℕ) (b : Bool) → number_of (nodes entries) x ≡ None → is_prefix entries x ≡ b → b ≡ false
-  apart x true none is =
-      let there = (nodes-Contains entries x).1 is in
-      absurd (none_some there.0 (sym none ∙ number_there entries x there.0 there.1 (get_or_default (nodes entries) there.0 [] x there.1 ∙ there.2)))
-  apart x false none is = refl
+  -- what is no node begins no entry
+  apart : (x : List ℕ) → number_of (nodes entries) x ≡ None → is_prefix entries x ≡ false
+  apart x none = sym (node_test entries x) ∙ ap is_some none
 
   -- ---- along the chain of ends
 
@@ -77,7 +64,7 @@ module _ (entries : List (List ℕ)) where
       record {
         inside = n.inside;
         shorter = omega (arith, ap length n.is, end_shorter entries x some);
-        same = window_apart entries x code some (apart (x ++ code ∷ []) (is_prefix entries (x ++ code ∷ [])) none refl) ∙ ap (λ u. window entries (u ++ code ∷ [])) (sym n.is);
+        same = window_apart entries x code some (apart (x ++ code ∷ []) none) ∙ ap (λ u. window entries (u ++ code ∷ [])) (sym n.is);
       }
 
   -- the root is the window where no entry begins with the stroke
@@ -85,7 +72,7 @@ module _ (entries : List (List ℕ)) where
   next_none code none = record { inside = root_inside entries; is = root_is entries ∙ sym (by (strokes_of entries 0) (root_is entries) none) }
     where
       by : (u : List ℕ) → u ≡ [] → number_of (nodes entries) (u ++ code ∷ []) ≡ None → window entries (u ++ code ∷ []) ≡ []
-      by [] is none = window_none entries code (apart (code ∷ []) (is_prefix entries (code ∷ [])) none refl)
+      by [] is none = window_none entries code (apart (code ∷ []) none)
       by (c ∷ u) is none = cc
 
   -- What the look-up at the root answers.
@@ -99,41 +86,26 @@ module _ (entries : List (List ℕ)) where
   pub row_root : IsRow entries [] 0 0
   row_root = record { end = root_node; last = root_node }
 
-  -- what has a number is an entry
-  numbered : (x : List ℕ) (e : ℕ) → number_of entries x ≡ Some e → is_entry entries x ≡ true
-  numbered x e h = let found = number_of-Some entries x e h in (is_entry-Decides entries x).1 (e, found.0, get_or_default entries e x [] found.0 ∙ found.1)
-
-  -- the row of an entry
-  row_entry : (node e : ℕ) → IsNode entries node → number_of entries (strokes_of entries node) ≡ Some e → IsRow entries (strokes_of entries node) 0 node
-  row_entry node e inside h =
-      let has = numbered (strokes_of entries node) e h in record {
-        end = record { inside = root_inside entries; is = root_is entries ∙ sym (end_entry entries (strokes_of entries node) has) };
-        last = record { inside = inside; is = sym (last_entry-entry entries (strokes_of entries node) has) };
-      }
-
-  -- what has no number is no entry
-  unnumbered : (x : List ℕ) → number_of entries x ≡ None → is_entry entries x ≡ false
-  unnumbered x none = list_any_none (λ e. pointwise nat_eq e x) entries (λ k d inside. fails_before_first (λ e. pointwise nat_eq e x) entries k d (omega (arith, past, inside)))
-    where
-      past : length entries ≤ position_or_len (λ e. pointwise nat_eq e x) entries
-      past = elim (cases_lt (position_or_len (λ e. pointwise nat_eq e x) entries) (length entries)) [
-        | inl found ↦ absurd (none_some (position_or_len (λ e. pointwise nat_eq e x) entries) (sym none ∙ rw ((Decides-ltb (position_or_len (λ e. pointwise nat_eq e x) entries) (length entries)).1 found) refl))
-        | inr long ↦ long
-      ]
+  -- The row of an entry.
+  pub row_entry : (node : ℕ) → IsNode entries node → is_entry entries (strokes_of entries node) ≡ true → IsRow entries (strokes_of entries node) 0 node
+  row_entry node inside has = record {
+    end = record { inside = root_inside entries; is = root_is entries ∙ sym (end_entry entries (strokes_of entries node) has) };
+    last = record { inside = inside; is = sym (last_entry-entry entries (strokes_of entries node) has) };
+  }
 
   -- the row of one stroke that is no entry
-  row_one : (x u : List ℕ) (code : ℕ) → x ≡ u ++ code ∷ [] → u ≡ [] → number_of entries x ≡ None → IsRow entries x 0 0
+  row_one : (x u : List ℕ) (code : ℕ) → x ≡ u ++ code ∷ [] → u ≡ [] → is_entry entries x ≡ false → IsRow entries x 0 0
   row_one x [] code is none h = record {
     end = record { inside = root_inside entries; is = root_is entries ∙ sym (ap (shorter_end entries) is ∙ end_one entries code) };
-    last = record { inside = root_inside entries; is = root_is entries ∙ sym (ap (last_entry entries) is ∙ last_entry-one entries code (ap (is_entry entries) (sym is) ∙ unnumbered x h)) };
+    last = record { inside = root_inside entries; is = root_is entries ∙ sym (ap (last_entry entries) is ∙ last_entry-one entries code (ap (is_entry entries) (sym is) ∙ h)) };
   }
   row_one x (c ∷ u) code is none h = cc
 
   -- the row of more strokes that are no entry
-  row_more : (x u : List ℕ) (code shorter end piece : ℕ) → x ≡ u ++ code ∷ [] → u ≢ [] → number_of entries x ≡ None → IsNodeOf entries (shorter_end entries u) shorter →
+  row_more : (x u : List ℕ) (code shorter end piece : ℕ) → x ≡ u ++ code ∷ [] → u ≢ [] → is_entry entries x ≡ false → IsNodeOf entries (shorter_end entries u) shorter →
       IsNodeOf entries (window entries (strokes_of entries shorter ++ code ∷ [])) end → IsNodeOf entries (last_entry entries (strokes_of entries end)) piece → IsRow entries x end piece
   row_more x u code shorter end piece is some h s e p =
-      let plain : is_entry entries (u ++ code ∷ []) ≡ false = ap (is_entry entries) (sym is) ∙ unnumbered x h in
+      let plain : is_entry entries (u ++ code ∷ []) ≡ false = ap (is_entry entries) (sym is) ∙ h in
       let w : strokes_of entries end ≡ window entries (shorter_end entries u ++ code ∷ []) = e.is ∙ ap (λ v. window entries (v ++ code ∷ [])) s.is in record {
         end = record { inside = e.inside; is = w ∙ sym (end_more entries u code some plain) ∙ ap (shorter_end entries) (sym is) };
         last = record { inside = p.inside; is = p.is ∙ ap (last_entry entries) w ∙ sym (last_entry-more entries u code some plain) ∙ ap (last_entry entries) (sym is) };
@@ -186,15 +158,11 @@ module _ (entries : List (List ℕ)) where
 
   -- ---- what the look-ups at a node answer
 
-  -- The row where the look-up of an entry answers one,
-  pub row_by_entry : (node : ℕ) (o : Option ℕ) → IsNode entries node → o ≡ number_of entries (strokes_of entries node) → true ≡ is_some o → IsRow entries (strokes_of entries node) 0 node
-  row_by_entry node None inside is has = cc
-  row_by_entry node (Some e) inside is has = row_entry node e inside (sym is)
+  -- ---- what the look-ups at a node answer
 
-  -- and where it answers none.
-  pub no_entry : (node : ℕ) (o : Option ℕ) → o ≡ number_of entries (strokes_of entries node) → false ≡ is_some o → number_of entries (strokes_of entries node) ≡ None
-  no_entry node None is has = sym is
-  no_entry node (Some e) is has = cc
+  -- Whether a node is an entry, by what the look-up of its entry answers.
+  pub entry_told : (node : ℕ) (o : Option ℕ) (b : Bool) → o ≡ number_of entries (strokes_of entries node) → b ≡ is_some o → is_entry entries (strokes_of entries node) ≡ b
+  entry_told node o b is has = sym (has ∙ ap is_some is ∙ number_test entries (strokes_of entries node))
 
   -- Only the root has no parent.
   pub no_parent : (node : ℕ) (o : Option ℕ) → o ≡ None → MatchOption o (node ≡ 0) (IsParent entries node) → node ≡ 0
@@ -206,7 +174,7 @@ module _ (entries : List (List ℕ)) where
   row_at_root node is = subst (λ x. IsRow entries x 0 0) (sym (ap (strokes_of entries) is ∙ root_is entries)) row_root
 
   -- The row of one stroke, whose parent is the root.
-  pub row_by_root : (node code parent : ℕ) (o : Option ℕ) → MatchOption o (node ≡ 0) (IsParent entries node) → parent ≡ unwrap_or o 0 → parent ≡ 0 → IsLast entries node code → number_of entries (strokes_of entries node) ≡ None →
+  pub row_by_root : (node code parent : ℕ) (o : Option ℕ) → MatchOption o (node ≡ 0) (IsParent entries node) → parent ≡ unwrap_or o 0 → parent ≡ 0 → IsLast entries node code → is_entry entries (strokes_of entries node) ≡ false →
       IsRow entries (strokes_of entries node) 0 0
   row_by_root node code parent None root is none last plain = row_at_root node root
   row_by_root node code parent (Some p) front is none last plain =
@@ -234,7 +202,7 @@ module _ (entries : List (List ℕ)) where
 
   -- The row that is found there.
   pub row_found : (ends pieces : List ℕ) (node code parent shorter end piece : ℕ) → IsStart node parent code shorter → AreLong entries ends pieces → SettledBelow entries ends pieces (length (strokes_of entries node)) →
-      number_of entries (strokes_of entries node) ≡ None → IsNodeOf entries (window entries (strokes_of entries shorter ++ code ∷ [])) end → piece ≡ get_or pieces end piece → IsRow entries (strokes_of entries node) end piece
+      is_entry entries (strokes_of entries node) ≡ false → IsNodeOf entries (window entries (strokes_of entries shorter ++ code ∷ [])) end → piece ≡ get_or pieces end piece → IsRow entries (strokes_of entries node) end piece
   row_found ends pieces node code parent shorter end piece start long below plain found read =
       let near = window_below shorter code end found in
       row_more (strokes_of entries node) (strokes_of entries parent) code shorter end piece start.split start.some plain start.end found

@@ -9,7 +9,8 @@ use Rattle.steno_rules.specs.Windows.{is_prefix}
 use Rattle.steno_rules.specs.Nodes.{nodes}
 use Rattle.steno_rules.proofs.Prefixes.{is_prefix-found, is_prefix-from}
 use Rattle.steno_rules.proofs.Lists.{in_one, in_first}
-use Rattle.outline_trie.proofs.OrderLemmas.{below_trans, nodes_same, nodes_more, fronts_below, split_front, proper_front, front_not_above, shared_same, shared_apart}
+use Rattle.steno_rules.proofs.Numbers.{below_trans}
+use Rattle.outline_trie.proofs.OrderLemmas.{nodes_same, nodes_more, fronts_below, split_front, proper_front, front_not_above, shared_same, shared_apart}
 
 -- the entries before this one, and the first strokes of this one
 abbrev pub grown : List (List ℕ) → ℕ → ℕ → List (List ℕ)

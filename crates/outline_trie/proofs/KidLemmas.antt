@@ -12,9 +12,8 @@ use Rattle.steno_rules.specs.Outlines.{outline_cmp, outline_of, number_of}
 use Rattle.steno_rules.specs.Nodes.{nodes}
 use Rattle.steno_rules.proofs.Numbers.{number_of-Some, number_of-outline_of, outline_of-once}
 use Rattle.steno_rules.proofs.NodeLemmas.{nodes-rising, nodes-first}
-use Rattle.outline_trie.proofs.PairLemmas.{pairs_push}
 use Rattle.outline_trie.proofs.OrderLemmas.{nat_cmp_same}
-use Rattle.steno_rules.proofs.Lists.{none_in_nil, in_one, in_first, in_if}
+use Rattle.steno_rules.proofs.Lists.{none_in_nil, in_one, in_first, in_if, pairs_push}
 
 -- ---- who is among the children
 

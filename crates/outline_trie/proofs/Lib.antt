@@ -1,4 +1,3 @@
-mod PairLemmas
 mod OrderLemmas
 mod GrowLemmas
 mod LengthLemmas

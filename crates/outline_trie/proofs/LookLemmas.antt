@@ -1,21 +1,20 @@
 -- What the look-ups along a path find.
-use Rattle.std.proofs.Common.{◌≡◌, ℕ, ◌+◌, ◌-◌, ◌<◌, ◌≤◌, List, [], ◌∷◌, ◌++◌, length, take, drop, get_or, refl, sym, ap, subst, ◌∙◌, arith, inl, inr, Option, Some, None, Contains, true, false, nat_le}
+use Rattle.std.proofs.Common.{◌≡◌, ℕ, ◌+◌, ◌-◌, ◌<◌, ◌≤◌, List, [], ◌∷◌, ◌++◌, length, take, drop, get_or, refl, sym, ap, subst, ◌∙◌, arith, inl, inr, Option, Some, None, is_some, true, false, nat_le}
 use Rattle.std.proofs.lemmas.Bool.{cases_lt}
-use Rattle.std.proofs.lemmas.Bool.Decides.{nat_tests}
+use Rattle.std.proofs.lemmas.Bool.Decides.{nat_tests, same_from_decides}
+use Rattle.std.proofs.lemmas.Option.{none-some}
 use Rattle.std.proofs.lemmas.List.{get_or_default, get_or_read, take-append-drop, take_more, length_push, drop-append-le, drop_all, take_all, take_at}
 use Rattle.outline_trie.specs.Tables.{IsStep, none_number, written_number}
 use Rattle.outline_trie.specs.Invariants.{IsTrie}
 use Rattle.outline_trie.specs.Tries.{IsNode, AreChildren, child_of, strokes_of, suffix_of, IsParent, IsLast}
-use Rattle.steno_rules.specs.Outlines.{outline_of, number_of}
+use Rattle.steno_rules.specs.Outlines.{is_entry, outline_of, number_of}
+use Rattle.steno_rules.specs.Windows.{is_prefix}
 use Rattle.steno_rules.specs.Nodes.{nodes}
-use Rattle.steno_rules.proofs.Numbers.{number_of-Some, number_of-outline_of}
+use Rattle.steno_rules.proofs.Entries.{is_entry-Decides}
+use Rattle.steno_rules.proofs.Numbers.{number_of-Some, number_of-outline_of, number_test, none_there}
 use Rattle.steno_rules.proofs.NodeLemmas.{nodes-rising, nodes-first, nodes-Contains}
-use Rattle.steno_rules.proofs.Prefixes.{is_prefix-front}
-use Rattle.outline_trie.proofs.TableLemmas.{number_of-None}
+use Rattle.steno_rules.proofs.Prefixes.{apart_front}
 use Rattle.outline_trie.proofs.DepthLemmas.{node_short}
-
-none_some : (n : ℕ) → ◌≡◌ {A = Option ℕ} None (Some n) → ⊥
-none_some n h = cc
 
 -- ---- what has a number
 
@@ -31,12 +30,15 @@ root_number entries = ap (number_of (nodes entries)) (sym (root_is entries)) ∙
 pub number_there : (entries : List (List ℕ)) (x : List ℕ) (node : ℕ) → node < length (nodes entries) → outline_of (nodes entries) node ≡ x → number_of (nodes entries) x ≡ Some node
 number_there entries x node inside is = ap (number_of (nodes entries)) (sym is) ∙ number_of-outline_of (nodes entries) node (nodes-rising entries) inside
 
+-- A list is a node where it begins an entry.
+pub node_test : (entries : List (List ℕ)) (x : List ℕ) → is_some (number_of (nodes entries) x) ≡ is_prefix entries x
+node_test entries x =
+    let begun = nodes-Contains entries x in
+    number_test (nodes entries) x ∙ same_from_decides (is_entry (nodes entries) x) (is_prefix entries x) (is_entry-Decides (nodes entries) x) (begun.1, begun.0)
+
 -- a longer list is no node where its front is none
 pub front_none : (entries : List (List ℕ)) (x y : List ℕ) → number_of (nodes entries) x ≡ None → number_of (nodes entries) (x ++ y) ≡ None
-front_none entries x y none = number_of-None (nodes entries) (x ++ y) (λ n inside is.
-    let there : Contains (nodes entries) (x ++ y) = (n, inside, get_or_default (nodes entries) n (x ++ y) [] inside ∙ is) in
-    let front = (nodes-Contains entries x).1 (is_prefix-front entries x y ((nodes-Contains entries (x ++ y)).0 there)) in
-    none_some front.0 (sym none ∙ number_there entries x front.0 front.1 (get_or_default (nodes entries) front.0 [] x front.1 ∙ front.2)))
+front_none entries x y none = none_there (number_of (nodes entries) (x ++ y)) (node_test entries (x ++ y) ∙ apart_front entries x y (sym (node_test entries x) ∙ ap is_some none))
 
 -- ---- along a list of strokes
 
@@ -106,7 +108,7 @@ ends u x stroke len is some fits =
 pub suffix_more : (entries : List (List ℕ)) (node parent stroke len begun : ℕ) → IsStep (nodes entries) node parent stroke → 0 < len → suffix_of entries parent (len - 1) ≡ Some begun →
     suffix_of entries node len ≡ child_of entries begun stroke
 suffix_more entries node parent stroke len begun s some found = elim (cases_lt (length (strokes_of entries node)) len) [
-  | inl more ↦ absurd (none_some begun (sym (rw (too_many (len - 1) (length (strokes_of entries parent)) (omega (arith, long))) refl) ∙ found))
+  | inl more ↦ absurd (none-some begun (sym (rw (too_many (len - 1) (length (strokes_of entries parent)) (omega (arith, long))) refl) ∙ found))
   | inr fits ↦
       let found' : number_of (nodes entries) (drop (length (strokes_of entries parent) - (len - 1)) (strokes_of entries parent)) ≡ Some begun =
       rw (enough (len - 1) (length (strokes_of entries parent)) (omega (arith, long))) at found in

@@ -13,9 +13,8 @@ use Rattle.steno_rules.specs.Windows.{is_prefix}
 use Rattle.steno_rules.specs.Nodes.{nodes}
 use Rattle.steno_rules.proofs.NodeLemmas.{nodes-rising, nodes-Contains}
 use Rattle.steno_rules.proofs.Rising.{rising_same}
-use Rattle.outline_trie.proofs.PairLemmas.{pairs_push}
-use Rattle.steno_rules.proofs.Numbers.{not_below_self}
-use Rattle.steno_rules.proofs.Lists.{in_one, in_first}
+use Rattle.steno_rules.proofs.Numbers.{not_below_self, below_trans}
+use Rattle.steno_rules.proofs.Lists.{in_one, in_first, pairs_push}
 
 told_same : (a b : ℕ) → nat_eq a b ≡ true → a ≡ b
 told_same a b h = grind (arith, nat_tests)
@@ -25,9 +24,6 @@ same_number a b h = grind (arith, nat_tests)
 
 one_more : (n : ℕ) → 1 + n ≡ suc n
 one_more n = omega arith
-
-pub below_trans : (x y z : List ℕ) → outline_cmp x y ≡ Less → outline_cmp y z ≡ Less → outline_cmp x z ≡ Less
-below_trans x y z l m = nat_list_cmp_total.trans x y z l m
 
 not_both : (x y : List ℕ) → outline_cmp x y ≡ Less → outline_cmp y x ≡ Less → ⊥
 not_both x y l m = not_below_self x (below_trans x y x l m)

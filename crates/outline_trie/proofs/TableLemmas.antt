@@ -1,6 +1,7 @@
 -- The columns of the nodes, as they grow and as they are read.
 use Rattle.std.proofs.Common.{◌≡◌, ℕ, zero, suc, ◌+◌, ◌-◌, ◌<◌, ◌≤◌, List, [], ◌∷◌, ◌++◌, length, take, get_or, set, refl, sym, ap, ◌∙◌, arith, inl, inr, take_all, length-take, length-set, Option, Some, None, get_or-set_same, get_or-set_other}
 use Rattle.std.proofs.lemmas.Bool.{cases_lt, cases_eq}
+use Rattle.std.proofs.lemmas.Option.{none-some}
 use Rattle.std.proofs.lemmas.List.{get_or_push, get_or_append_left, length_push, take-append-le, get_or-take}
 use Rattle.outline_trie.specs.Tables.{IsStep, IsTable, IsNumbered, none_number, written_number, up}
 use Rattle.steno_rules.specs.Outlines.{AreRising, outline_of, number_of}
@@ -73,16 +74,13 @@ no_number entries x (Some e) is none = let found = number_of-Some entries x e is
 pub number_of-None : (entries : List (List ℕ)) (x : List ℕ) → ((e : ℕ) → e < length entries → outline_of entries e ≡ x → ⊥) → number_of entries x ≡ None
 number_of-None entries x none = no_number entries x (number_of entries x) refl none
 
-none_some : (n : ℕ) → ◌≡◌ {A = Option ℕ} None (Some n) → ⊥
-none_some n h = cc
-
 -- one entry more leaves the numbers of the others
 pub number_of_other : (entries : List (List ℕ)) (e x : List ℕ) → AreRising entries → AreRising (entries ++ e ∷ []) → (e ≡ x → ⊥) → number_of (entries ++ e ∷ []) x ≡ number_of entries x
 number_of_other entries e x front rising other = by (number_of entries x) refl
   where
     by : (o : Option ℕ) → number_of entries x ≡ o → number_of (entries ++ e ∷ []) x ≡ o
     by None is = number_of-None (entries ++ e ∷ []) x (λ n inside same. elim (cases_lt n (length entries)) [
-      | inl old ↦ absurd (none_some n (sym is ∙ ap (number_of entries) (sym same ∙ old_outline entries e n old) ∙ number_of-outline_of entries n front old))
+      | inl old ↦ absurd (none-some n (sym is ∙ ap (number_of entries) (sym same ∙ old_outline entries e n old) ∙ number_of-outline_of entries n front old))
       | inr new ↦ absurd (other (sym (new_outline entries e n (omega (arith, length_push entries e))) ∙ same))
     ])
     by (Some n) is =

@@ -1,16 +1,14 @@
 //! The worked rows of the trie: the nodes of five entries, of none, and of one more than fit.
-ghost use Rattle.std.specs.Prelude.{◌≡◌, ◌<◌, true};
-ghost use Rattle.steno_rules.specs.Outlines.{AreEntries};
+ghost use Rattle.std.specs.Prelude.{◌≡◌, ◌<◌};
 ghost use Rattle.outline_trie.specs.Tries.{IsNode};
 
 use crate::{Trie, TrieFault};
 use std::alloc::Global;
-use std::cmp::Ordering;
 use std::marker::Brand;
 use std::process::Abort;
 use std::sync::ledger::{Blank, Ledger};
 use steps::Steps;
-use stroke::{Outline, Stroke};
+use stroke::{Outline, Stroke, are_entries};
 
 /// The outline of these codes.
 fn outline_of_codes(rt: &impl Abort, alloc: Global, codes: &[u32]) -> Outline {
@@ -23,24 +21,6 @@ fn outline_of_codes(rt: &impl Abort, alloc: Global, codes: &[u32]) -> Outline {
         }
     }
     outline
-}
-
-/// Whether outlines are entries: none empty, each above the one before.
-fn are_entries(outlines: &[Outline]) -> bool
-    ensures { result ≡ true → AreEntries outlines.now }
-{
-    for number in 0..outlines.len() {
-        if outlines[number].strokes().is_empty() {
-            return false;
-        }
-        if number > 0 {
-            match outlines[number - 1].cmp(&outlines[number]) {
-                Ordering::Less => {}
-                _ => return false,
-            }
-        }
-    }
-    true
 }
 
 fn trie_of(rt: &impl Abort, alloc: Global, outlines: &[Outline]) -> Result<Trie, TrieFault> {

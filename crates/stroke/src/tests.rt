@@ -1,6 +1,6 @@
 //! What no clause can say: that a call succeeds where memory is ample, and the keys of real strokes.
 
-use crate::{Outline, Stroke};
+use crate::{Outline, Stroke, are_entries};
 use std::alloc::AllocError;
 use std::cmp::Ordering;
 use std::process::Abort;
@@ -58,5 +58,6 @@ fn lists_and_their_order(rt: HostRuntime) -> Result<(), AllocError> {
         Outline::from_strokes(rt.alloc(), &[k])?.cmp(&long),
         Ordering::Greater
     );
+    assert!(rt; are_entries(&[short, long]));
     Ok(())
 }

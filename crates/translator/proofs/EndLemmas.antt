@@ -1,59 +1,17 @@
 -- The ends of pieces: what each of them tells, and what becomes of them by one more stroke.
-use Rattle.std.proofs.Common.{◌≡◌, ℕ, zero, suc, ◌+◌, ◌<◌, ◌≤◌, List, [], ◌∷◌, ◌++◌, length, take, drop, map, get_or, refl, sym, ap, ◌∙◌, arith, ◌⊎◌, inl, inr, Option, Some, None, Bool, true, false, true≢false, cond, not, is_some, nat_eq, nat_lt, ◌||◌, append_assoc, append-nil}
-use Prim.Native.Nat.compare
-use Rattle.std.specs.List.{concat, list_any, position, position_or_len, AllByRecursion}
-use Rattle.std.specs.Cmp.Lexicographic.{pointwise}
-use Rattle.std.proofs.lemmas.Bool.Decides.{Decides-ltb}
-use Rattle.std.proofs.lemmas.List.{get_or_default}
+use Rattle.std.proofs.Common.{◌≡◌, ℕ, zero, suc, ◌+◌, ◌<◌, ◌≤◌, List, [], ◌∷◌, ◌++◌, length, take, drop, map, get_or, refl, sym, ap, ◌∙◌, arith, ◌⊎◌, inl, inr, Option, Some, None, Bool, true, false, true≢false, cond, not, is_some, append_assoc, append-nil}
+use Rattle.std.specs.List.{concat, AllByRecursion}
 use Rattle.longest_match.specs.Pieces.{piece_of}
-use Rattle.outline_trie.proofs.LookLemmas.{front_none, number_there, root_is, root_number}
+use Rattle.outline_trie.proofs.LookLemmas.{front_none, node_test, root_is, root_number}
 use Rattle.steno_rules.specs.Live.{merge}
 use Rattle.steno_rules.specs.Nodes.{nodes}
 use Rattle.steno_rules.specs.Outlines.{is_entry, number_of}
 use Rattle.steno_rules.specs.Windows.{is_prefix, window_pieces}
-use Rattle.steno_rules.proofs.NodeLemmas.{nodes-Contains}
-use Rattle.steno_rules.proofs.Numbers.{number_of-Some}
+use Rattle.steno_rules.proofs.Numbers.{number_of-Some, number_test, none_there}
 use Rattle.steno_rules.proofs.Prefixes.{apart_entry}
 use Rattle.translator.specs.Ends.{ends_of, IsEnd, grown, is_entry_end, lost, piece_at}
 
 -- ---- one end
-
-none_some : (n : ℕ) → ◌≡◌ {A = Option ℕ} None (Some n) → ⊥
-none_some n h = cc
-
--- a place is found where an element passes
-place_test : {X : Type 0} (p : X → Bool) (xs : List X) → nat_lt (position_or_len p xs) (length xs) ≡ list_any p xs
-place_test p [] = refl
-place_test p (x ∷ xs) = by (p x) (position_or_len p xs) (place_test p xs)
-  where
-    by : (b : Bool) (n : ℕ) → nat_lt n (length xs) ≡ list_any p xs → nat_lt (cond (not b) (1 + n) 0) (suc (length xs)) ≡ (b || list_any p xs)
-    by true n rest = (Decides-ltb 0 (suc (length xs))).1 (omega arith)
-    by false n rest = let more : 1 + n ≡ suc n = omega arith in rw (more, compare.suc-suc) rest
-
-found_test : {X : Type 0} (p : X → Bool) (xs : List X) → is_some (position p xs) ≡ list_any p xs
-found_test p xs = by (nat_lt (position_or_len p xs) (length xs)) (place_test p xs)
-  where
-    by : (b : Bool) → b ≡ list_any p xs → is_some (cond b (Some (position_or_len p xs)) None) ≡ list_any p xs
-    by true is = is
-    by false is = is
-
--- a list has a number where it is in the list
-number_test : (entries : List (List ℕ)) (x : List ℕ) → is_some (number_of entries x) ≡ is_entry entries x
-number_test entries x = found_test (λ e. pointwise nat_eq e x) entries
-
--- the strokes of a node are what begins an entry
-pub node_test : (entries : List (List ℕ)) (x : List ℕ) → is_some (number_of (nodes entries) x) ≡ is_prefix entries x
-node_test entries x = by (is_prefix entries x) refl (number_of (nodes entries) x) refl
-  where
-    by : (b : Bool) → is_prefix entries x ≡ b → (o : Option ℕ) → number_of (nodes entries) x ≡ o → is_some o ≡ b
-    by true begins (Some n) is = refl
-    by true begins None is =
-        let there = (nodes-Contains entries x).1 begins in
-        absurd (none_some there.0 (sym is ∙ number_there entries x there.0 there.1 (get_or_default (nodes entries) there.0 [] x there.1 ∙ there.2)))
-    by false apart None is = refl
-    by false apart (Some n) is =
-        let found = number_of-Some (nodes entries) x n is in
-        absurd (true≢false (sym ((nodes-Contains entries x).0 (n, found.0, get_or_default (nodes entries) n x [] found.0 ∙ found.1)) ∙ apart))
 
 -- the end of some strokes is none or a node
 pub end_there : (entries : List (List ℕ)) (x : List ℕ) → IsEnd entries (number_of (nodes entries) x)
@@ -79,20 +37,12 @@ entry_test entries x = by (number_of (nodes entries) x) refl
     by None is = sym (apart_entry entries x (sym (node_test entries x) ∙ ap is_some is))
     by (Some n) is = ap (λ u. is_some (number_of entries u)) (number_of-Some (nodes entries) x n is).1 ∙ number_test entries x
 
--- what is no entry has no number
-no_number : (entries : List (List ℕ)) (x : List ℕ) → is_entry entries x ≡ false → number_of entries x ≡ None
-no_number entries x none = by (number_of entries x) refl
-  where
-    by : (o : Option ℕ) → number_of entries x ≡ o → o ≡ None
-    by None is = refl
-    by (Some n) is = absurd (true≢false (sym (ap is_some is) ∙ number_test entries x ∙ none))
-
 -- the piece of an end is that of its strokes, where they begin an entry or are one stroke
 pub piece_is : (entries : List (List ℕ)) (x : List ℕ) → (length x ≡ 1) ⊎ (is_prefix entries x ≡ true) → piece_at entries (number_of (nodes entries) x) ≡ piece_of entries x
 piece_is entries x made = by (number_of (nodes entries) x) refl made
   where
     by : (o : Option ℕ) → number_of (nodes entries) x ≡ o → (length x ≡ 1) ⊎ (is_prefix entries x ≡ true) → piece_at entries o ≡ piece_of entries x
-    by None is (inl one) = rw (one, no_number entries x (apart_entry entries x (sym (node_test entries x) ∙ ap is_some is))) refl
+    by None is (inl one) = rw (one, none_there (number_of entries x) (number_test entries x ∙ apart_entry entries x (sym (node_test entries x) ∙ ap is_some is))) refl
     by None is (inr begins) = absurd (true≢false (sym begins ∙ sym (node_test entries x) ∙ ap is_some is))
     by (Some n) is _ = ap (piece_of entries) (number_of-Some (nodes entries) x n is).1
 

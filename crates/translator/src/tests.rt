@@ -1,17 +1,15 @@
 //! The worked examples by pushes and by whole lists, and the translator beside the plain program.
-ghost use Rattle.std.specs.Prelude.{◌≡◌, ◌<◌, IsTrue};
-ghost use Rattle.steno_rules.specs.Outlines.{AreEntries};
+ghost use Rattle.std.specs.Prelude.{◌≡◌, ◌<◌};
 
 use crate::{Merge, Translator, translate};
 use longest_match::{Piece, segment};
 use outline_trie::Trie;
 use std::alloc::{AllocError, Global};
-use std::cmp::Ordering;
 use std::marker::Brand;
 use std::process::Abort;
 use std::sync::ledger::{Blank, Ledger};
 use steps::Steps;
-use stroke::{Outline, Stroke};
+use stroke::{Outline, Stroke, are_entries};
 
 const S: u32 = 2;
 
@@ -47,24 +45,6 @@ fn entries_of(
         entries.push(Outline::from_strokes(alloc, &strokes)?)?;
     }
     Ok(entries)
-}
-
-/// Whether the outlines are entries: in strictly rising order, none of them empty.
-fn are_entries(outlines: &[Outline]) -> bool
-    ensures { IsTrue result → AreEntries outlines.now }
-{
-    for i in 0..outlines.len() {
-        if outlines[i].strokes().is_empty() {
-            return false;
-        }
-        for j in i + 1..outlines.len() {
-            match outlines[i].cmp(&outlines[j]) {
-                Ordering::Less => (),
-                _ => return false,
-            }
-        }
-    }
-    true
 }
 
 /// Pushes the strokes, looks at each answer, and then at the pieces of the window.
