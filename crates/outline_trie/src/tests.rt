@@ -69,32 +69,19 @@ fn counted_child(trie: &Trie, node: u32, stroke: Stroke) -> Option<u32>
     step::<Brand>(trie, node, stroke, Blank::new(1))
 }
 
-#[test]
-fn numbers_nodes_in_order(rt: HostRuntime) {
-    let alloc = rt.alloc();
+/// The outlines of five entries.
+fn five_outlines(rt: &impl Abort, alloc: Global) -> Vec<Outline> {
     let mut outlines = Vec::new(alloc);
-    for codes in [
-        [2, 0, 0].as_slice(),
-        &[2, 4, 0],
-        &[4, 8, 16],
-        &[16, 32, 0],
-        &[32, 0, 0],
-    ] {
-        let len = if codes[1] == 0 {
-            1
-        } else if codes[2] == 0 {
-            2
-        } else {
-            3
-        };
-        let (used, _) = codes.split_at(len);
+    for codes in [[2].as_slice(), &[2, 4], &[4, 8, 16], &[16, 32], &[32]] {
         outlines
-            .push(outline_of_codes(&rt, alloc, used))
-            .expect(&rt, "memory");
+            .push(outline_of_codes(rt, alloc, codes))
+            .expect(rt, "memory");
     }
-    let trie = trie_of(&rt, alloc, outlines.as_slice()).expect(&rt, "a trie");
-    assert_eq!(&rt; trie.node_count(), 9);
-    assert_eq!(&rt; trie.longest_entry(), 3);
+    outlines
+}
+
+/// The nodes of the five entries, each by its strokes with its entry and its parent.
+fn check_nodes(rt: &impl Abort, alloc: Global, trie: &Trie) {
     for (codes, node, entry, parent) in [
         ([].as_slice(), 0, None, None),
         (&[2], 1, Some(0), Some(0)),
@@ -106,23 +93,36 @@ fn numbers_nodes_in_order(rt: HostRuntime) {
         (&[16, 32], 7, Some(3), Some(6)),
         (&[32], 8, Some(4), Some(0)),
     ] {
-        let outline = outline_of_codes(&rt, alloc, codes);
-        check_node(&rt, &trie, outline.strokes(), node, entry, parent);
+        let outline = outline_of_codes(rt, alloc, codes);
+        check_node(rt, trie, outline.strokes(), node, entry, parent);
     }
-    if trie.node_count() > 8 {
-        assert_eq!(&rt;
-            trie.children(0),
-            [(2, 1), (4, 3), (16, 6), (32, 8)].as_slice()
-        );
-        assert!(&rt; trie.children(8).is_empty());
-        let stroke = Stroke::new(8).expect(&rt, "K");
-        assert_eq!(&rt; trie.child(3, stroke), Some(4));
-        assert_eq!(&rt; counted_child(&trie, 3, stroke), Some(4));
-        assert_eq!(&rt; trie.child(0, stroke), None);
-        assert_eq!(&rt; trie.suffix(5, 1), Some(6));
-        assert_eq!(&rt; trie.suffix(5, 2), None);
-        assert_eq!(&rt; trie.suffix(7, 1), Some(8));
-    }
+}
+
+/// Children and suffixes among the nodes of the five entries.
+fn check_children(rt: &impl Abort, trie: &Trie) {
+    assert!(rt; trie.node_count() > 8);
+    assert_eq!(rt;
+        trie.children(0),
+        [(2, 1), (4, 3), (16, 6), (32, 8)].as_slice()
+    );
+    assert!(rt; trie.children(8).is_empty());
+    let stroke = Stroke::new(8).expect(rt, "K");
+    assert_eq!(rt; trie.child(3, stroke), Some(4));
+    assert_eq!(rt; counted_child(trie, 3, stroke), Some(4));
+    assert_eq!(rt; trie.child(0, stroke), None);
+    assert_eq!(rt; trie.suffix(5, 1), Some(6));
+    assert_eq!(rt; trie.suffix(5, 2), None);
+    assert_eq!(rt; trie.suffix(7, 1), Some(8));
+}
+
+#[test]
+fn numbers_nodes_in_order(rt: HostRuntime) {
+    let outlines = five_outlines(&rt, rt.alloc());
+    let trie = trie_of(&rt, rt.alloc(), outlines.as_slice()).expect(&rt, "a trie");
+    assert_eq!(&rt; trie.node_count(), 9);
+    assert_eq!(&rt; trie.longest_entry(), 3);
+    check_nodes(&rt, rt.alloc(), &trie);
+    check_children(&rt, &trie);
 }
 
 #[test]

@@ -3,7 +3,10 @@
 use crate::{
     Files, OutsideFault, ReadFault, RealFiles, RealSink, read_all, write_all, write_all_file,
 };
+use std::alloc::Global;
 use std::path::PathBuf;
+use std::process::Abort;
+use std::rt::Files as System;
 use std::test::Fail;
 use std::{env, fs, process};
 
@@ -16,8 +19,7 @@ fn new_folder(rt: &HostRuntime) -> Result<PathBuf, Fail> {
 }
 
 /// Writes a file, whose content has `len` bytes, and reads it back.
-fn copies(rt: &HostRuntime, path: &str, len: u32) -> Result<bool, Fail> {
-    let alloc = rt.alloc();
+fn copies(rt: &impl System, alloc: Global, path: &str, len: u32) -> Result<bool, Fail> {
     let mut bytes: Vec<u8> = Vec::new(alloc);
     for i in 0..len {
         bytes.push((i % 251) as u8)?;
@@ -31,46 +33,74 @@ fn copies(rt: &HostRuntime, path: &str, len: u32) -> Result<bool, Fail> {
 }
 
 /// The fault at reading a file.
-fn read_fault(rt: &HostRuntime, path: &str, limit: u32) -> Option<ReadFault> {
-    let mut files = RealFiles::new(rt, rt.alloc());
-    read_all(rt.alloc(), &mut files, path, limit as u64).err()
+fn read_fault(rt: &impl System, alloc: Global, path: &str, limit: u32) -> Option<ReadFault> {
+    let mut files = RealFiles::new(rt, alloc);
+    read_all(alloc, &mut files, path, limit as u64).err()
 }
 
 /// The fault at writing three bytes to a file.
-fn write_fault(rt: &HostRuntime, path: &str) -> Option<OutsideFault> {
-    let mut files = RealFiles::new(rt, rt.alloc());
+fn write_fault(rt: &impl System, alloc: Global, path: &str) -> Option<OutsideFault> {
+    let mut files = RealFiles::new(rt, alloc);
     match files.begin(path) {
         Ok(()) => write_all_file(&mut files, b"one").err(),
         Err(fault) => Some(fault),
     }
 }
 
+/// Files of these lengths are written and read back.
+fn check_copies(rt: &(impl Abort + System), alloc: Global, path: &str) -> Result<(), Fail> {
+    for len in [0, 1, 65_536, 5_000_000] {
+        assert!(rt; copies(rt, alloc, path, len)?, "{len} bytes");
+    }
+    Ok(())
+}
+
+/// Which files can't be read, after one of 5,000,000 bytes was written.
+fn check_reads(rt: &(impl Abort + System), alloc: Global, file: &str, missing: &str, folder: &str) {
+    for (path, limit, fault) in [
+        (file, 5_000_000, None),
+        (file, 4_999_999, Some(ReadFault::TooLong)),
+        (missing, 9, Some(ReadFault::Failed)),
+        (folder, 9, Some(ReadFault::Failed)),
+    ] {
+        assert_eq!(rt; read_fault(rt, alloc, path, limit), fault, "{path}");
+    }
+}
+
+/// Which files can't be written.
+fn check_writes<'a>(
+    rt: &(impl Abort + System),
+    alloc: Global,
+    file: &'a str,
+    in_missing: &'a str,
+    folder: &'a str,
+) {
+    for (path, fault) in [
+        (file, None),
+        ("/dev/null", None),
+        ("/dev/full", Some(OutsideFault::Failed)),
+        (in_missing, Some(OutsideFault::Failed)),
+        (folder, Some(OutsideFault::Failed)),
+    ] {
+        assert_eq!(rt; write_fault(rt, alloc, path), fault, "{path}");
+    }
+}
+
+/// What the system does with the files in a folder.
+fn check_folder(rt: &(impl Abort + System), alloc: Global, folder: &str) -> Result<(), Fail> {
+    let file = format!(in alloc; "{folder}/file")?;
+    let missing = format!(in alloc; "{folder}/missing")?;
+    let in_missing = format!(in alloc; "{missing}/file")?;
+    check_copies(rt, alloc, &file)?;
+    check_reads(rt, alloc, &file, &missing, folder);
+    check_writes(rt, alloc, &file, &in_missing, folder);
+    Ok(())
+}
+
 #[test]
 fn real_files(rt: HostRuntime) -> Result<(), Fail> {
     let folder = new_folder(&rt)?;
-    let file = folder.join(rt.alloc(), "file")?;
-    let missing = folder.join(rt.alloc(), "missing")?;
-    let in_missing = missing.join(rt.alloc(), "file")?;
-    for len in [0, 1, 65_536, 5_000_000] {
-        assert!(rt; copies(&rt, file.as_str(), len)?, "{len} bytes");
-    }
-    for (path, limit, fault) in [
-        (file.as_str(), 5_000_000, None),
-        (file.as_str(), 4_999_999, Some(ReadFault::TooLong)),
-        (missing.as_str(), 9, Some(ReadFault::Failed)),
-        (folder.as_str(), 9, Some(ReadFault::Failed)),
-    ] {
-        assert_eq!(rt; read_fault(&rt, path, limit), fault, "{path}");
-    }
-    for (path, fault) in [
-        (file.as_str(), None),
-        ("/dev/null", None),
-        ("/dev/full", Some(OutsideFault::Failed)),
-        (in_missing.as_str(), Some(OutsideFault::Failed)),
-        (folder.as_str(), Some(OutsideFault::Failed)),
-    ] {
-        assert_eq!(rt; write_fault(&rt, path), fault, "{path}");
-    }
+    check_folder(&rt, rt.alloc(), folder.as_str())?;
     fs::remove_dir_all(&rt, folder.as_path())?;
     Ok(())
 }
