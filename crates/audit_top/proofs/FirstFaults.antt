@@ -6,7 +6,7 @@ use Rattle.outside.specs.Files.{Held}
 use Rattle.dict_json.specs.Outcomes.{dictionary_outcome}
 use Rattle.dict_json.specs.Outcomes as of
 use Rattle.dict_json.specs.Dictionaries.{DictionaryView}
-use Rattle.report.specs.Faults.{Fault, too_many_bytes}
+use Rattle.report.specs.Refusals.{RefusalView, too_many_bytes}
 use Rattle.audit_top.specs.Commands.{file_of}
 use Rattle.audit_top.specs.DictFiles.{file_fault, outcome_fault, first_of, first_fault, dictionary_in, dictionaries_of, most_bytes}
 use Rattle.audit_top.specs.Dues.{bytes_of}
@@ -18,11 +18,11 @@ file_fault-long file bytes long = let test : nat_lt most_bytes (length bytes) �
 pub file_fault-short : (file : ℕ) (bytes : List ℕ) → length bytes ≤ most_bytes → file_fault file bytes ≡ outcome_fault file (dictionary_outcome bytes)
 file_fault-short file bytes short = let test : nat_lt most_bytes (length bytes) ≡ false = grind (arith, nat_tests) in rw test refl
 
-first_of-assoc : (a b c : Option Fault) → first_of (first_of a b) c ≡ first_of a (first_of b c)
+first_of-assoc : (a b c : Option RefusalView) → first_of (first_of a b) c ≡ first_of a (first_of b c)
 first_of-assoc None b c = refl
 first_of-assoc (Some f) b c = refl
 
-first_of-none : (a : Option Fault) → first_of a None ≡ a
+first_of-none : (a : Option RefusalView) → first_of a None ≡ a
 first_of-none None = refl
 first_of-none (Some f) = refl
 
@@ -64,7 +64,7 @@ accepted-more held words place within before here =
     ∙ ap (λ o. first_of o None) here
 
 -- the next file is refused, so it is the first that is
-pub refused-here : (held : Held) (words : List (List ℕ)) (place : ℕ) (fault : Fault) → place < length words → first_fault 1 (bytes_of held (take place words)) ≡ None
+pub refused-here : (held : Held) (words : List (List ℕ)) (place : ℕ) (fault : RefusalView) → place < length words → first_fault 1 (bytes_of held (take place words)) ≡ None
     → file_fault (place + 1) (bytes_at held words place) ≡ Some fault → first_fault 1 (bytes_of held words) ≡ Some fault
 refused-here held words place fault within before here =
     let rest : List (List ℕ) = drop (place + 1) words in

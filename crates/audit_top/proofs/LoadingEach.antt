@@ -6,7 +6,7 @@ use Rattle.outside.specs.declared.fault.Way.TheVariants.{Reading}
 use Rattle.dict_json.specs.Dictionaries.{DictionaryView}
 use Rattle.dict_json.specs.Outcomes.{dictionary, dictionary_outcome}
 use Rattle.dict_stack.specs.Stacks.{most_dictionaries}
-use Rattle.report.specs.Faults.{Fault}
+use Rattle.report.specs.Refusals.{RefusalView}
 use Rattle.audit_top.specs.Commands.{file_of}
 use Rattle.audit_top.specs.DictFiles.{file_fault, first_fault, dictionaries_of, most_bytes, outcome_fault}
 use Rattle.audit_top.specs.Dues.{bytes_of, kinds_of}
@@ -41,7 +41,7 @@ before : (held : Option Held) (words : List (List ℕ)) (place : ℕ) → IfSome
     → IfSome held (λ h. first_fault 1 (bytes_of h (take (place + 1 - 1) words)) ≡ None)
 before held words place accepted = let e : place + 1 - 1 ≡ place = omega arith in rw e accepted
 
-refused : (told : Option Held) (words : List (List ℕ)) (place : ℕ) (name : List ℕ) (fault : Fault) → place < length words → name ≡ (file_of (get_or words place [])).name
+refused : (told : Option Held) (words : List (List ℕ)) (place : ℕ) (name : List ℕ) (fault : RefusalView) → place < length words → name ≡ (file_of (get_or words place [])).name
     → IfSome told (λ held. first_fault 1 (bytes_of held (take place words)) ≡ None) → IfSome told (λ held. file_fault (place + 1) (held name) ≡ Some fault)
     → IfSome told (λ held. first_fault 1 (bytes_of held words) ≡ Some fault)
 refused None words place name fault within is accepted here = tt
@@ -94,7 +94,7 @@ loading-more words place name old mid new all d within is loading held writing l
 
 -- ---- one file
 
-told_cause : (told : Option Held) (file : ℕ) (name bytes : List ℕ) (fault : Fault) → IfSome told (λ held. bytes ≡ held name) → length bytes ≤ most_bytes → outcome_fault file (dictionary_outcome bytes) ≡ Some fault
+told_cause : (told : Option Held) (file : ℕ) (name bytes : List ℕ) (fault : RefusalView) → IfSome told (λ held. bytes ≡ held name) → length bytes ≤ most_bytes → outcome_fault file (dictionary_outcome bytes) ≡ Some fault
     → IfSome told (λ held. file_fault file (held name) ≡ Some fault)
 told_cause None file name bytes fault is short cause = tt
 told_cause (Some h) file name bytes fault is short cause = subst (λ (b : List ℕ). file_fault file b ≡ Some fault) is (file_fault-short file bytes short ∙ cause)

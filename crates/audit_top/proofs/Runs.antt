@@ -5,12 +5,12 @@ use Rattle.std.proofs.lemmas.Bool.Decides.{nat_tests}
 use Rattle.outside.specs.Files.{Held, FilesView}
 use Rattle.outside.specs.Faults.{Rose}
 use Rattle.steno_rules.specs.Nodes.{nodes}
-use Rattle.steno_order.specs.Reading.{strokes_of}
+use Rattle.steno_order.specs.Reading.{spelt_strokes}
 use Rattle.dict_json.specs.Generated.{generated_text}
 use Rattle.dict_stack.specs.Stacks.{StackView, stack_of, all_outlines, most_entries, most_dictionaries}
 use Rattle.longest_match.specs.declared.pieces.Piece.{Piece}
 use Rattle.longest_match.specs.Pieces.{pieces}
-use Rattle.report.specs.Faults.{Fault, not_words, too_many_dictionaries, too_many_entries, too_many_nodes}
+use Rattle.report.specs.Refusals.{RefusalView, not_words, too_many_dictionaries, too_many_entries, too_many_nodes}
 use Rattle.report.specs.Replays.{pieces_text, replay_text}
 use Rattle.report.proofs.SegmentedReplays.{pieces_text-segments}
 use Rattle.audit_top.specs.Commands.{CommandView, replay, generate}
@@ -35,16 +35,16 @@ entries_fit : (stack : StackView) (strokes : List ℕ) → length stack.outlines
 entries_fit stack strokes few = let test : nat_lt most_entries (length stack.outlines) ≡ false = grind (arith, nat_tests) in rw test refl
 
 -- the replay of the pieces that were found is what is owed
-replay-due : (stack : StackView) (outline strokes : List ℕ) (found : List Piece) → length (nodes stack.outlines) ≤ most_nodes → strokes_of outline ≡ Some strokes → found ≡ pieces stack.outlines strokes
-    → record { status = Clean; text = pieces_text stack strokes found } ≡ nodes_due (unwrap_or (strokes_of outline) []) stack
+replay-due : (stack : StackView) (outline strokes : List ℕ) (found : List Piece) → length (nodes stack.outlines) ≤ most_nodes → spelt_strokes outline ≡ Some strokes → found ≡ pieces stack.outlines strokes
+    → record { status = Clean; text = pieces_text stack strokes found } ≡ nodes_due (unwrap_or (spelt_strokes outline) []) stack
 replay-due stack outline strokes found few read is =
     ap (λ (ps : List Piece). let due : Due = record { status = Clean; text = pieces_text stack strokes ps } in due) is
     ∙ ap (λ (t : List ℕ). let due : Due = record { status = Clean; text = t } in due) (pieces_text-segments stack strokes)
     ∙ sym (nodes_fit stack strokes few)
     ∙ ap (λ o. nodes_due (unwrap_or o []) stack) (sym read)
 
-pub pays-replay : (stack : StackView) (outline strokes : List ℕ) (found : List Piece) (status : Status) (old new : Option (List ℕ)) → length (nodes stack.outlines) ≤ most_nodes → strokes_of outline ≡ Some strokes → found ≡ pieces stack.outlines strokes
-    → Pays (record { status = Clean; text = pieces_text stack strokes found }) status old new → Pays (nodes_due (unwrap_or (strokes_of outline) []) stack) status old new
+pub pays-replay : (stack : StackView) (outline strokes : List ℕ) (found : List Piece) (status : Status) (old new : Option (List ℕ)) → length (nodes stack.outlines) ≤ most_nodes → spelt_strokes outline ≡ Some strokes → found ≡ pieces stack.outlines strokes
+    → Pays (record { status = Clean; text = pieces_text stack strokes found }) status old new → Pays (nodes_due (unwrap_or (spelt_strokes outline) []) stack) status old new
 pays-replay stack outline strokes found status old new few read is pays = subst (λ (due : Due). Pays due status old new) (replay-due stack outline strokes found few read is) pays
 
 -- entries that are few enough
@@ -70,7 +70,7 @@ reads : (outline : List ℕ) (words : List (List ℕ)) → length words ≤ most
 reads outline words few unread = true≢false (sym (ap not (few_test words few)) ∙ unread)
 
 replay-files : (held : Held) (outline : List ℕ) (words : List (List ℕ)) → length words ≤ most_dictionaries
-    → replay_due held outline words ≡ files_due (unwrap_or (strokes_of outline) []) (kinds_of words) (bytes_of held words) (first_fault 1 (bytes_of held words))
+    → replay_due held outline words ≡ files_due (unwrap_or (spelt_strokes outline) []) (kinds_of words) (bytes_of held words) (first_fault 1 (bytes_of held words))
 replay-files held outline words few = rw (few_test words few) refl
 
 -- words that are no command
@@ -91,15 +91,15 @@ owes-many old new outline words count many is =
 -- a replay over the stack of its dictionaries
 stack_told : (told : Option Held) (outline : List ℕ) (words : List (List ℕ)) (stack : StackView) → length words ≤ most_dictionaries
     → IfSome told (λ held. (first_fault 1 (bytes_of held words) ≡ None) × (length (all_outlines (dictionaries_of (bytes_of held words))) ≤ most_entries) × (stack ≡ stack_of (dictionaries_of (bytes_of held words)) (kinds_of words)))
-    → IfSome told (λ held. stack_due (unwrap_or (strokes_of outline) []) stack ≡ command_due held (Some (replay outline words)))
+    → IfSome told (λ held. stack_due (unwrap_or (spelt_strokes outline) []) stack ≡ command_due held (Some (replay outline words)))
 stack_told None outline words stack few read = tt
 stack_told (Some h) outline words stack few read =
-    ap (stack_due (unwrap_or (strokes_of outline) [])) read.2
-    ∙ sym (replay-files h outline words few ∙ ap (files_due (unwrap_or (strokes_of outline) []) (kinds_of words) (bytes_of h words)) read.0)
+    ap (stack_due (unwrap_or (spelt_strokes outline) [])) read.2
+    ∙ sym (replay-files h outline words few ∙ ap (files_due (unwrap_or (spelt_strokes outline) []) (kinds_of words) (bytes_of h words)) read.0)
 
 pub owes-stack : (old new : FilesView) (outline : List ℕ) (words : List (List ℕ)) (stack : StackView) → length words ≤ most_dictionaries
     → IfSome old.held (λ held. (first_fault 1 (bytes_of held words) ≡ None) × (length (all_outlines (dictionaries_of (bytes_of held words))) ≤ most_entries) × (stack ≡ stack_of (dictionaries_of (bytes_of held words)) (kinds_of words)))
-    → Owes (Some (replay outline words)) old new (stack_due (unwrap_or (strokes_of outline) []) stack)
+    → Owes (Some (replay outline words)) old new (stack_due (unwrap_or (spelt_strokes outline) []) stack)
 owes-stack old new outline words stack few read = inl (record { told = stack_told old.held outline words stack few read; unread = λ unread. absurd (reads outline words few unread) })
 
 -- something is owed, whatever the files hold
@@ -117,13 +117,13 @@ owes-some old new outline words few = inl (record { told = owed_told old.held (S
 
 -- ---- a refusal of the dictionaries
 
-refused_told : (told : Option Held) (outline : List ℕ) (words : List (List ℕ)) (fault : Fault) → length words ≤ most_dictionaries
+refused_told : (told : Option Held) (outline : List ℕ) (words : List (List ℕ)) (fault : RefusalView) → length words ≤ most_dictionaries
     → IfSome told (λ held. first_fault 1 (bytes_of held words) ≡ Some fault) → IfSome told (λ held. fault_due fault ≡ command_due held (Some (replay outline words)))
 refused_told None outline words fault few first = tt
 refused_told (Some h) outline words fault few first =
-    sym (replay-files h outline words few ∙ ap (files_due (unwrap_or (strokes_of outline) []) (kinds_of words) (bytes_of h words)) first)
+    sym (replay-files h outline words few ∙ ap (files_due (unwrap_or (spelt_strokes outline) []) (kinds_of words) (bytes_of h words)) first)
 
-owes-refused : (old new : FilesView) (outline : List ℕ) (words : List (List ℕ)) (fault : Fault) → length words ≤ most_dictionaries
+owes-refused : (old new : FilesView) (outline : List ℕ) (words : List (List ℕ)) (fault : RefusalView) → length words ≤ most_dictionaries
     → IfSome old.held (λ held. first_fault 1 (bytes_of held words) ≡ Some fault) → Owes (Some (replay outline words)) old new (fault_due fault)
 owes-refused old new outline words fault few first = inl (record { told = refused_told old.held outline words fault few first; unread = λ unread. absurd (reads outline words few unread) })
 
@@ -132,7 +132,7 @@ entries_told : (told : Option Held) (outline : List ℕ) (words : List (List ℕ
     → IfSome told (λ held. fault_due (too_many_entries count) ≡ command_due held (Some (replay outline words)))
 entries_told None outline words count few many = tt
 entries_told (Some h) outline words count few many =
-    let strokes : List ℕ = unwrap_or (strokes_of outline) [] in
+    let strokes : List ℕ = unwrap_or (spelt_strokes outline) [] in
     let outlines : List (List ℕ) = all_outlines (dictionaries_of (bytes_of h words)) in
     let test : nat_lt most_entries (length outlines) ≡ true = over_test outlines many.1 in
     let due : fault_due (too_many_entries count) ≡ stack_due strokes (stack_of (dictionaries_of (bytes_of h words)) (kinds_of words)) = rw (test, many.2) refl in
@@ -217,11 +217,11 @@ pub record Refusal (outline : List ℕ) (words : List (List ℕ)) (old new : Fil
   pub file : status ≡ File → IsReadingFailure words old new text added
   pub ends : IsCommandStatus status
 
-pub refusal : (outline : List ℕ) (words : List (List ℕ)) (old new : FilesView) (text added : Option (List ℕ)) (status : Status) (fault : LoadFault) (line : Fault) → length words ≤ most_dictionaries → (fault ≡ of.Memory → ⊥)
+pub refusal : (outline : List ℕ) (words : List (List ℕ)) (old new : FilesView) (text added : Option (List ℕ)) (status : Status) (fault : LoadFault) (line : RefusalView) → length words ≤ most_dictionaries → (fault ≡ of.Memory → ⊥)
     → IsCauseOf words old new fault → line ≡ fault_of_load fault → Pays (fault_due line) status text added → (status ≡ fault_status line) ⊎ (status ≡ Output) ⊎ (status ≡ Memory) → Refusal outline words old new text added status
 refusal outline words old new text added status fault line few other cause is pays ends =
-    let pays' = subst (λ (f : Fault). Pays (fault_due f) status text added) is pays in
-    let ends' = subst (λ (f : Fault). (status ≡ fault_status f) ⊎ (status ≡ Output) ⊎ (status ≡ Memory)) is ends in
+    let pays' = subst (λ (f : RefusalView). Pays (fault_due f) status text added) is pays in
+    let ends' = subst (λ (f : RefusalView). (status ≡ fault_status f) ⊎ (status ≡ Output) ⊎ (status ≡ Memory)) is ends in
     record {
       pays = (fault_due (fault_of_load fault), owes-load old new outline words fault few other cause, pays');
       file = λ e. failure-put words old new text added fault status pays' e cause;

@@ -3,7 +3,7 @@ use Rattle.std.proofs.Common.{ℕ, zero, suc, ◌-◌, ◌≡◌, ◌<◌, ◌^�
 use Rattle.std.specs.Prelude.{option_and_then}
 use Rattle.std.specs.Str.{bytes_eq}
 use Rattle.std.specs.Prelude.{codes}
-use Rattle.text_rules.specs.Decimals.{number_of}
+use Rattle.text_rules.specs.Decimals.{decimal_value}
 use Rattle.audit_top.specs.Commands.{CommandView, ForOutline, command_of, generate, generate_of, if_valid, is_valid, replay, replay_of}
 
 -- a command that is valid is one
@@ -27,7 +27,7 @@ from_replay (outline ∷ files) c short h =
 from_generate : (words : List (List ℕ)) (c : CommandView) → generate_of words ≡ Some c → IsWritten c
 from_generate [] c h = absurd (true≢false cc)
 from_generate (start ∷ []) c h = absurd (true≢false cc)
-from_generate (start ∷ count ∷ []) c h = by (number_of (2 ^ 64 - 1) start) (number_of 100000 count) h
+from_generate (start ∷ count ∷ []) c h = by (decimal_value (2 ^ 64 - 1) start) (decimal_value 100000 count) h
   where
     by : (s n : Option ℕ) → option_and_then (λ s. option_and_then (λ n. if_valid (generate s n)) n) s ≡ Some c → IsWritten c
     by None n h = absurd (true≢false cc)

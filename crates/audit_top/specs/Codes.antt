@@ -3,13 +3,13 @@ use Rattle.std.specs.Prelude.{ℕ}
 use Rattle.audit_top.specs.declared.status.Status.{Status}
 use Rattle.audit_top.specs.declared.status.Status.TheVariants.{Clean, Conflicts, Words, File, Refused, Limit, Output, Memory, Rejected}
 
-abbrev pub code_of : Status → ℕ
-code_of Clean = 0
-code_of Conflicts = 1
-code_of Words = 2
-code_of File = 3
-code_of Refused = 4
-code_of Limit = 5
-code_of Output = 6
-code_of Memory = 7
-code_of Rejected = 8
+abbrev pub exit_code : Status → ℕ
+exit_code Clean = 0
+exit_code Conflicts = 1
+exit_code Words = 2
+exit_code File = 3
+exit_code Refused = 4
+exit_code Limit = 5
+exit_code Output = 6
+exit_code Memory = 7
+exit_code Rejected = 8

@@ -7,8 +7,8 @@
 use Rattle.std.specs.Prelude.{ℕ, ◌^◌, ◌-◌, ◌≡◌, List, [], ◌∷◌, Bool, true, false, not, ◌&&◌, nat_lt, nat_le, nat_eq, if◌then◌else◌, length, drop, map, is_some, Option, Some, None, option_and_then, string_bytes, codes, decimal, ⊤}
 use Rattle.std.specs.Str.{bytes_eq}
 use Rattle.std.specs.List.{list_all, starts_with}
-use Rattle.text_rules.specs.Decimals.{number_of}
-use Rattle.steno_order.specs.Reading.{strokes_of}
+use Rattle.text_rules.specs.Decimals.{decimal_value}
+use Rattle.steno_order.specs.Reading.{spelt_strokes}
 use Rattle.audit_top.specs.declared.words.Command.{Command}
 use Rattle.audit_top.specs.declared.words.Command.TheVariants as of
 
@@ -36,7 +36,7 @@ are_files words = nat_lt 0 (length words) && list_all (λ word. not (bytes_eq wo
 
 -- one readable stroke or more
 abbrev pub is_readable : List ℕ → Bool
-is_readable text = is_some (strokes_of text)
+is_readable text = is_some (spelt_strokes text)
 
 -- what the words of a command have to be
 abbrev pub is_valid : CommandView → Bool
@@ -62,7 +62,7 @@ replay_of [] = None
 
 -- of the two numbers after `generate`
 abbrev pub generate_of : List (List ℕ) → Option CommandView
-generate_of (start ∷ count ∷ []) = option_and_then (λ s. option_and_then (λ n. if_valid (generate s n)) (number_of 100000 count)) (number_of (2 ^ 64 - 1) start)
+generate_of (start ∷ count ∷ []) = option_and_then (λ s. option_and_then (λ n. if_valid (generate s n)) (decimal_value 100000 count)) (decimal_value (2 ^ 64 - 1) start)
 generate_of words = None
 
 abbrev pub command_of : List (List ℕ) → Option CommandView

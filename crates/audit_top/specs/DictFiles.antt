@@ -5,14 +5,14 @@ use Rattle.std.specs.Prelude.{ℕ, ◌+◌, List, [], ◌∷◌, nat_lt, if◌th
 use Rattle.dict_json.specs.Dictionaries.{DictionaryView}
 use Rattle.dict_json.specs.Outcomes.{Outcome, dictionary_outcome}
 use Rattle.dict_json.specs.Outcomes as of
-use Rattle.report.specs.Faults.{Fault, not_json, not_object, not_text, outline_too_long, too_many_bytes}
+use Rattle.report.specs.Refusals.{RefusalView, not_json, not_object, not_text, outline_too_long, too_many_bytes}
 
 -- the most bytes of a dictionary's file
 abbrev pub most_bytes : ℕ
 most_bytes = 67108864
 
 -- the refusal of the file of this number, by what its bytes come to
-abbrev pub outcome_fault : ℕ → Outcome → Option Fault
+abbrev pub outcome_fault : ℕ → Outcome → Option RefusalView
 outcome_fault file of.not_json = Some (not_json file)
 outcome_fault file of.not_object = Some (not_object file)
 outcome_fault file (of.not_text key) = Some (not_text file key)
@@ -20,16 +20,16 @@ outcome_fault file (of.too_long key parts) = Some (outline_too_long file key par
 outcome_fault file (of.dictionary d) = None
 
 -- by its length, and then by what its bytes come to
-abbrev pub file_fault : ℕ → List ℕ → Option Fault
+abbrev pub file_fault : ℕ → List ℕ → Option RefusalView
 file_fault file bytes = if nat_lt most_bytes (length bytes) then Some (too_many_bytes file) else outcome_fault file (dictionary_outcome bytes)
 
 -- the first of two refusals, if there is one
-abbrev pub first_of : Option Fault → Option Fault → Option Fault
+abbrev pub first_of : Option RefusalView → Option RefusalView → Option RefusalView
 first_of (Some fault) later = Some fault
 first_of None later = later
 
 -- of files that are numbered from `file` on
-abbrev pub first_fault : ℕ → List (List ℕ) → Option Fault
+abbrev pub first_fault : ℕ → List (List ℕ) → Option RefusalView
 first_fault file [] = None
 first_fault file (bytes ∷ others) = first_of (file_fault file bytes) (first_fault (file + 1) others)
 

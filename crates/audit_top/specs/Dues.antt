@@ -8,10 +8,10 @@ use Rattle.std.specs.Prelude.{ℕ, ◌≡◌, ◌⊎◌, List, [], ◌++◌, Boo
 use Rattle.std.specs.Io.KnownBytes.{append_known}
 use Rattle.outside.specs.Files.{Held}
 use Rattle.steno_rules.specs.Nodes.{nodes}
-use Rattle.steno_order.specs.Reading.{strokes_of}
+use Rattle.steno_order.specs.Reading.{spelt_strokes}
 use Rattle.dict_json.specs.Generated.{generated_text}
 use Rattle.dict_stack.specs.Stacks.{StackView, stack_of, most_entries, most_dictionaries}
-use Rattle.report.specs.Faults.{Fault, fault_text, not_words, file_failed, certificate_failed, not_json, not_object, not_text, too_many_dictionaries, too_many_bytes, outline_too_long, too_many_entries, too_many_nodes, too_many_states, certificate_too_long, no_memory, rejected}
+use Rattle.report.specs.Refusals.{RefusalView, refusal_text, not_words, file_failed, certificate_failed, not_json, not_object, not_text, too_many_dictionaries, too_many_bytes, outline_too_long, too_many_entries, too_many_nodes, too_many_states, certificate_too_long, no_memory, rejected}
 use Rattle.report.specs.Replays.{replay_text}
 use Rattle.audit_top.specs.Commands.{CommandView, replay, generate, file_of}
 use Rattle.audit_top.specs.DictFiles.{first_fault, dictionaries_of}
@@ -23,7 +23,7 @@ pub record Due : Type 0 where
   pub text : List ℕ
 
 -- the status of a run that ends with the line of a refusal
-abbrev pub fault_status : Fault → Status
+abbrev pub fault_status : RefusalView → Status
 fault_status not_words = Words
 fault_status (file_failed file) = File
 fault_status certificate_failed = File
@@ -40,8 +40,8 @@ fault_status certificate_too_long = Limit
 fault_status no_memory = Memory
 fault_status (rejected at why) = Rejected
 
-abbrev pub fault_due : Fault → Due
-fault_due fault = record { status = fault_status fault; text = fault_text fault }
+abbrev pub fault_due : RefusalView → Due
+fault_due fault = record { status = fault_status fault; text = refusal_text fault }
 
 -- the most nodes of a trie
 abbrev pub most_nodes : ℕ
@@ -60,7 +60,7 @@ stack_due strokes stack =
     else nodes_due strokes stack
 
 -- over the stack of the files, unless one of them is refused
-abbrev pub files_due : List ℕ → List Bool → List (List ℕ) → Option Fault → Due
+abbrev pub files_due : List ℕ → List Bool → List (List ℕ) → Option RefusalView → Due
 files_due strokes kinds files (Some fault) = fault_due fault
 files_due strokes kinds files None = stack_due strokes (stack_of (dictionaries_of files) kinds)
 
@@ -76,7 +76,7 @@ kinds_of words = map (λ word. (file_of word).has_words) words
 abbrev pub replay_due : Held → List ℕ → List (List ℕ) → Due
 replay_due held outline words =
     if nat_lt most_dictionaries (length words) then fault_due (too_many_dictionaries (length words))
-    else files_due (unwrap_or (strokes_of outline) []) (kinds_of words) (bytes_of held words) (first_fault 1 (bytes_of held words))
+    else files_due (unwrap_or (spelt_strokes outline) []) (kinds_of words) (bytes_of held words) (first_fault 1 (bytes_of held words))
 
 abbrev pub command_due : Held → Option CommandView → Due
 command_due held None = fault_due not_words
@@ -90,7 +90,7 @@ reads_files (Some (generate start count)) = false
 
 -- a part of the text, and then a part of the line for want of memory, were added
 abbrev pub AppendsPart : List ℕ → Option (List ℕ) → Option (List ℕ) → Type 0
-AppendsPart text old new = (n : ℕ) × (m : ℕ) × (new ≡ append_known old (take n text ++ take m (fault_text no_memory)))
+AppendsPart text old new = (n : ℕ) × (m : ℕ) × (new ≡ append_known old (take n text ++ take m (refusal_text no_memory)))
 
 -- the run ends as it owes
 pub record Paid (due : Due) (status : Status) (old new : Option (List ℕ)) : Type 0 where

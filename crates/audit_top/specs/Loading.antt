@@ -6,14 +6,14 @@ use Rattle.outside.specs.Files.{FilesView, FaultAt}
 use Rattle.outside.specs.declared.fault.Way.TheVariants.{Reading}
 use Rattle.dict_stack.specs.Stacks.{all_outlines, most_entries}
 use Rattle.dict_json.specs.Outcomes.{Outcome}
-use Rattle.report.specs.Faults.{Fault, file_failed, not_json, not_object, not_text, too_many_bytes, outline_too_long, too_many_entries, no_memory}
+use Rattle.report.specs.Refusals.{RefusalView, file_failed, not_json, not_object, not_text, too_many_bytes, outline_too_long, too_many_entries, no_memory}
 use Rattle.audit_top.specs.DictFiles.{file_fault, outcome_fault, first_fault, dictionaries_of}
 use Rattle.audit_top.specs.Dues.{bytes_of}
 use Rattle.audit_top.specs.Owing.{FileFailed}
 use Rattle.audit_top.specs.declared.loading.LoadFault.{LoadFault}
 use Rattle.audit_top.specs.declared.loading.LoadFault.TheVariants as of
 
-abbrev pub fault_of_load : LoadFault → Fault
+abbrev pub fault_of_load : LoadFault → RefusalView
 fault_of_load (of.FileFailed file) = file_failed file
 fault_of_load (of.Bytes file) = too_many_bytes file
 fault_of_load (of.NotJson file) = not_json file

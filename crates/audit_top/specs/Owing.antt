@@ -5,7 +5,7 @@ use Rattle.std.specs.Prelude.{ℕ, ◌≡◌, ◌⊎◌, ◌≤◌, ◌-◌, Lis
 use Rattle.outside.specs.Files.{FilesView, FaultAt}
 use Rattle.outside.specs.declared.fault.Way.TheVariants.{Reading}
 use Rattle.dict_stack.specs.Stacks.{most_dictionaries}
-use Rattle.report.specs.Faults.{file_failed, fault_text}
+use Rattle.report.specs.Refusals.{file_failed, refusal_text}
 use Rattle.audit_top.specs.declared.status.Status.{Status}
 use Rattle.audit_top.specs.declared.status.Status.TheVariants.{Clean, Conflicts, Words, File, Refused, Limit, Output, Memory, Rejected}
 use Rattle.std.specs.Io.KnownBytes.{append_known}
@@ -48,7 +48,7 @@ Owes command old new due = IsOwed command old due ⊎ IsFailure command old new 
 pub record IsReadingFailure (words : List (List ℕ)) (old new : FilesView) (text added : Option (List ℕ)) : Type 0 where
   pub file : ℕ
   pub failed : FileFailed words old new file
-  pub line : added ≡ append_known text (fault_text (file_failed file))
+  pub line : added ≡ append_known text (refusal_text (file_failed file))
 
 -- how the run of a command may end
 abbrev pub IsCommandStatus : Status → Type 0

@@ -3,7 +3,7 @@
 ghost use Rattle.std.specs.Prelude.{◌≡◌, ◌≤◌, ◌⊎◌, ◌<◌, All, IfSome, length, sum_by};
 ghost use Rattle.outside.specs.Faults.{Rose};
 ghost use Rattle.outside.specs.Sink.{AppendsPrefix};
-ghost use Rattle.report.specs.Faults.{fault_of, fault_text, no_memory};
+ghost use Rattle.report.specs.Refusals.{refusal_of, refusal_text, no_memory};
 ghost use Rattle.report.specs.Replays.{pieces_text};
 ghost use Rattle.audit_top.specs.Dues.{Pays, fault_due, fault_status};
 
@@ -17,7 +17,7 @@ use stroke::Stroke;
 
 /// The status of a run that ends with the line of a refusal.
 fn status_of(fault: &FaultLine<'_>) -> Status
-    ensures status { result ≡ fault_status (fault_of fault.now) }
+    ensures status { result ≡ fault_status (refusal_of fault.now) }
     ensures puts { result ≡ Status.Output → ⊥ }
 {
     match *fault {
@@ -41,7 +41,7 @@ fn status_of(fault: &FaultLine<'_>) -> Status
 /// Ends a run for want of memory: puts the line that says so.
 pub(crate) fn end_memory<S: Sink>(alloc: Global, out: &mut S) -> Status
     ensures status { (result ≡ Status.Output) ⊎ (result ≡ Status.Memory) }
-    ensures text { AppendsPrefix (S.text out.old) (S.text out.new) (fault_text no_memory) }
+    ensures text { AppendsPrefix (S.text out.old) (S.text out.new) (refusal_text no_memory) }
     ensures later { S.faults out.old ≤ S.faults out.new }
     ensures output { result ≡ Status.Output → Rose (S.faults out.old) (S.faults out.new) }
 {
@@ -53,8 +53,8 @@ pub(crate) fn end_memory<S: Sink>(alloc: Global, out: &mut S) -> Status
 
 /// Ends a run with the line of a refusal.
 pub(crate) fn end_fault<S: Sink>(alloc: Global, out: &mut S, fault: &FaultLine<'_>) -> Status
-    ensures pays { Pays (fault_due (fault_of fault.now)) result (S.text out.old) (S.text out.new) }
-    ensures status { (result ≡ fault_status (fault_of fault.now)) ⊎ (result ≡ Status.Output) ⊎ (result ≡ Status.Memory) }
+    ensures pays { Pays (fault_due (refusal_of fault.now)) result (S.text out.old) (S.text out.new) }
+    ensures status { (result ≡ fault_status (refusal_of fault.now)) ⊎ (result ≡ Status.Output) ⊎ (result ≡ Status.Memory) }
     ensures later { S.faults out.old ≤ S.faults out.new }
     ensures output { result ≡ Status.Output → Rose (S.faults out.old) (S.faults out.new) }
 {

@@ -3,9 +3,9 @@
 ghost use Rattle.std.specs.Prelude.{◌≡◌, ◌≤◌, ◌<◌, ◌^◌, ◌↔◌, IsTrue, All, IfErr, IfOk, IfSome, None, length, map, string_bytes, string_len};
 ghost use Rattle.outside.specs.Files.{LeavesFiles};
 ghost use Rattle.dict_json.specs.Outcomes.{Outcome, dictionary, dictionary_outcome};
-ghost use Rattle.dict_json.specs.Faults.{IsCauseOf as IsDictCause};
+ghost use Rattle.dict_json.specs.Faults.{IsDictCause};
 ghost use Rattle.dict_stack.specs.Stacks.{all_outlines, most_dictionaries, most_entries, stack_of};
-ghost use Rattle.report.specs.Faults.{fault_of};
+ghost use Rattle.report.specs.Refusals.{refusal_of};
 ghost use Rattle.audit_top.specs.Commands.{file_of};
 ghost use Rattle.audit_top.specs.DictFiles.{dictionaries_of, file_fault, first_fault, most_bytes};
 ghost use Rattle.audit_top.specs.Dues.{bytes_of, kinds_of};
@@ -46,7 +46,7 @@ impl LoadFault {
 
     /// The line that says so.
     pub(crate) fn line(&self) -> FaultLine<'_>
-        ensures { fault_of result ≡ fault_of_load self.now }
+        ensures { refusal_of result ≡ fault_of_load self.now }
     {
         match self {
             LoadFault::FileFailed { file } => FaultLine::FileFailed { file: *file },

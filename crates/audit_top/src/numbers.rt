@@ -3,7 +3,7 @@
 ghost use Rattle.std.specs.Prelude.{◌≡◌, ◌<◌, ◌≤◌, MatchOption};
 ghost use Rattle.std.specs.Char.{is_ascii_digit};
 ghost use Rattle.std.specs.List.{list_all};
-ghost use Rattle.text_rules.specs.Decimals.{is_decimal, number_of, value_of};
+ghost use Rattle.text_rules.specs.Decimals.{is_decimal, decimal_value, digits_value};
 
 /// Whether all bytes are digits.
 fn has_digits(text: &[u8]) -> bool
@@ -24,7 +24,7 @@ fn has_form(text: &[u8]) -> bool
 
 /// The value of digits, if it is at most this.
 fn value(text: &[u8], most: u64) -> Option<u64>
-    ensures { MatchOption result (most < value_of text.now) (λ n. (n ≡ value_of text.now) × (n ≤ most)) }
+    ensures { MatchOption result (most < digits_value text.now) (λ n. (n ≡ digits_value text.now) × (n ≤ most)) }
 {
     let mut value: u64 = 0;
     for byte in text {
@@ -39,7 +39,7 @@ fn value(text: &[u8], most: u64) -> Option<u64>
 
 /// The number that a word is, if it is one of at most `most`. It takes no memory.
 pub(crate) fn read_number(word: &str, most: u64) -> Option<u64>
-    ensures { result ≡ number_of most word.now }
+    ensures { result ≡ decimal_value most word.now }
 {
     if has_form(word.as_bytes()) {
         value(word.as_bytes(), most)

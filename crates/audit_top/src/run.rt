@@ -4,7 +4,7 @@ ghost use Rattle.std.specs.Prelude.{◌≡◌, ◌≤◌, ◌<◌, ◌⊎◌, �
 ghost use Rattle.outside.specs.Faults.{Rose};
 ghost use Rattle.outside.specs.Files.{LeavesFiles};
 ghost use Rattle.steno_rules.specs.Nodes.{nodes};
-ghost use Rattle.steno_order.specs.Reading.{strokes_of};
+ghost use Rattle.steno_order.specs.Reading.{spelt_strokes};
 ghost use Rattle.dict_stack.specs.Stacks.{most_entries};
 ghost use Rattle.dict_json.specs.Generated.{generated_text};
 ghost use Rattle.audit_top.specs.Commands.{ForOutline, command_of, command_view, is_valid, replay as replay_of};
@@ -36,10 +36,10 @@ fn replay_pieces<S: Sink>(
     out: &mut S,
 ) -> Status
     requires short { length outline.now < 2 ^ 32 }
-    requires readable { IsSome (strokes_of outline.now) }
+    requires readable { IsSome (spelt_strokes outline.now) }
     requires trie { trie.now ≡ stack.now.outlines }
     requires few { length (nodes stack.now.outlines) ≤ most_nodes }
-    ensures pays { Pays (nodes_due (unwrap_or (strokes_of outline.now) []) stack.now) result (S.text out.old) (S.text out.new) }
+    ensures pays { Pays (nodes_due (unwrap_or (spelt_strokes outline.now) []) stack.now) result (S.text out.old) (S.text out.new) }
     ensures status { (result ≡ Status.Clean) ⊎ (result ≡ Status.Output) ⊎ (result ≡ Status.Memory) }
     ensures later { S.faults out.old ≤ S.faults out.new }
     ensures output { result ≡ Status.Output → Rose (S.faults out.old) (S.faults out.new) }
@@ -56,9 +56,9 @@ fn replay_pieces<S: Sink>(
 /// A replay whose dictionaries were read.
 fn replay_stack<S: Sink>(alloc: Global, outline: &str, stack: &Stack, out: &mut S) -> Status
     requires short { length outline.now < 2 ^ 32 }
-    requires readable { IsSome (strokes_of outline.now) }
+    requires readable { IsSome (spelt_strokes outline.now) }
     requires few { length stack.now.outlines ≤ most_entries }
-    ensures pays { Pays (stack_due (unwrap_or (strokes_of outline.now) []) stack.now) result (S.text out.old) (S.text out.new) }
+    ensures pays { Pays (stack_due (unwrap_or (spelt_strokes outline.now) []) stack.now) result (S.text out.old) (S.text out.new) }
     ensures status { (result ≡ Status.Clean) ⊎ (result ≡ Status.Limit) ⊎ (result ≡ Status.Output) ⊎ (result ≡ Status.Memory) }
     ensures later { S.faults out.old ≤ S.faults out.new }
     ensures output { result ≡ Status.Output → Rose (S.faults out.old) (S.faults out.new) }
@@ -81,7 +81,7 @@ fn replay<F: Files, S: Sink>(
     out: &mut S,
 ) -> Status
     requires short { length outline.now < 2 ^ 32 }
-    requires readable { IsSome (strokes_of outline.now) }
+    requires readable { IsSome (spelt_strokes outline.now) }
     ensures pays { (due : Due) × Owes (Some (replay_of outline.now (map string_bytes words.now))) (F.view files.old) (F.view files.new) due × Pays due result (S.text out.old) (S.text out.new) }
     ensures file { result ≡ Status.File → IsReadingFailure (map string_bytes words.now) (F.view files.old) (F.view files.new) (S.text out.old) (S.text out.new) }
     ensures status { IsCommandStatus result }

@@ -1,7 +1,7 @@
 //! How a run ends.
 
 ghost use Rattle.std.specs.Prelude.{◌≡◌};
-ghost use Rattle.audit_top.specs.Codes.{code_of};
+ghost use Rattle.audit_top.specs.Codes.{exit_code};
 
 /// How a run ended.
 #[derive(Clone, Copy, Debug, PartialEq, Eq)]
@@ -29,7 +29,7 @@ pub enum Status {
 impl Status {
     /// The number with which the program ends, from 0 to 8 in the order of the variants.
     pub fn code(self) -> u8
-        ensures { result ≡ code_of self }
+        ensures { result ≡ exit_code self }
     {
         match self {
             Status::Clean => 0,

@@ -3,7 +3,7 @@
 ghost use Rattle.std.specs.Prelude.{◌≡◌, ◌<◌, ◌^◌, ◌-◌, ◌≤◌, All, List, ℕ, MatchOption, Option, is_some, length, map, not, option_map, string_bytes, string_len};
 ghost use Rattle.std.specs.List.{list_all};
 ghost use Rattle.std.specs.Str.{bytes_eq};
-ghost use Rattle.text_rules.specs.Decimals.{number_of};
+ghost use Rattle.text_rules.specs.Decimals.{decimal_value};
 ghost use Rattle.audit_top.specs.Commands.{are_files, command_of, command_view, file_of, generate_of, match_prefix, replay_of};
 
 use crate::numbers::read_number;

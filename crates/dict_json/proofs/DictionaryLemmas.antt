@@ -8,17 +8,17 @@ use Rattle.std.proofs.lemmas.Bool.{ltb-false}
 use Rattle.steno_rules.specs.Nodes.{insert_new, by_order}
 use Rattle.steno_rules.specs.Outlines.{AreRising, outline_cmp}
 use Rattle.steno_order.specs.Keys.{slash}
-use Rattle.steno_order.specs.Reading.{strokes_of}
+use Rattle.steno_order.specs.Reading.{spelt_strokes}
 use Rattle.steno_order.specs.Spelling.{parts_of}
 use Rattle.dict_json.specs.Reading.{Member, Keyed, keyed, AreInOrder}
-use Rattle.dict_json.specs.Dictionaries.{Entry, IsDictionary, outlines_of, in_order, spelt, standing, last_of_each, skipped_of, dictionary_of}
+use Rattle.dict_json.specs.Dictionaries.{Entry, IsDictionary, entry_outlines, in_order, spelt, standing, last_of_each, skipped_of, dictionary_of}
 use Rattle.dict_json.specs.Outcomes.{is_too_long, keys_outcome, members_outcome, dictionary}
-use Rattle.dict_json.specs.Walks.{KeysView, walked}
+use Rattle.dict_json.specs.inside.Walks.{KeysView, walked}
 use Rattle.dict_json.proofs.InOrder.{in_order-rising, in_order-Contains}
 use Rattle.serde_json.specs.Find.{as_str}
 use Rattle.steno_rules.proofs.Rising.{Rises, rises_of_pairs}
 use Rattle.dict_json.proofs.KeyOrder.{Before, some_in_order}
-use Rattle.dict_json.proofs.Parts.{strokes_of-length}
+use Rattle.dict_json.proofs.Parts.{spelt_strokes-length}
 
 -- where none passes, all fail
 fails : {X : Type 0} (p : X → Bool) (x : X) (xs : List X) → find p (x ∷ xs) ≡ None → (p x ≡ false) × (find p xs ≡ None)
@@ -39,10 +39,10 @@ all_kept p (x ∷ xs) e = let f = fails p x xs e in ap (λ b. cond (not b) (x �
 -- each readable key makes an entry, and each other key is skipped
 counted : (pairs : List Keyed) → length (spelt pairs) + length (skipped_of pairs) ≡ length pairs
 counted [] = refl
-counted (p ∷ ps) = by (strokes_of p.key) (counted ps)
+counted (p ∷ ps) = by (spelt_strokes p.key) (counted ps)
   where
     others : List Keyed
-    others = filter (λ q. is_none (strokes_of q.key)) ps
+    others = filter (λ q. is_none (spelt_strokes q.key)) ps
 
     by : (o : Option (List ℕ)) → length (spelt ps) + length (skipped_of ps) ≡ length ps →
         length (cons_option (option_map (λ strokes. record { outline = strokes; text = p.text }) o) (spelt ps)) + length (map (λ (q : Keyed). q.key) (cond (is_none o) (p ∷ others) others)) ≡ suc (length ps)
@@ -63,18 +63,18 @@ fold_length (x ∷ xs) acc = omega (arith, fold_length xs (insert_new acc x), in
         by Equal rest = omega arith
         by Greater rest = omega (arith, rest)
 
-outlines_back : (f : List ℕ → List ℕ) (os : List (List ℕ)) → outlines_of (map (λ outline. record { outline = outline; text = f outline }) os) ≡ os
+outlines_back : (f : List ℕ → List ℕ) (os : List (List ℕ)) → entry_outlines (map (λ outline. record { outline = outline; text = f outline }) os) ≡ os
 outlines_back f [] = refl
 outlines_back f (o ∷ os) = ap (λ l. o ∷ l) (outlines_back f os)
 
-pub last_of_each-outlines : (entries : List Entry) → outlines_of (last_of_each entries) ≡ in_order (outlines_of entries)
-last_of_each-outlines entries = outlines_back (standing entries) (in_order (outlines_of entries))
+pub last_of_each-outlines : (entries : List Entry) → entry_outlines (last_of_each entries) ≡ in_order (entry_outlines entries)
+last_of_each-outlines entries = outlines_back (standing entries) (in_order (entry_outlines entries))
 
 pub last_of_each-length : (entries : List Entry) → length (last_of_each entries) ≤ length entries
 last_of_each-length entries =
-    let made : length (last_of_each entries) ≡ length (in_order (outlines_of entries)) = length-map (in_order (outlines_of entries)) _ in
-    let outlines : length (outlines_of entries) ≡ length entries = length-map entries _ in
-    omega (arith, fold_length (outlines_of entries) [], made, outlines)
+    let made : length (last_of_each entries) ≡ length (in_order (entry_outlines entries)) = length-map (in_order (entry_outlines entries)) _ in
+    let outlines : length (entry_outlines entries) ≡ length entries = length-map entries _ in
+    omega (arith, fold_length (entry_outlines entries) [], made, outlines)
 
 and_true : (b : Bool) → b && true ≡ false → b ≡ false
 and_true true e = e
@@ -85,33 +85,33 @@ abbrev IsInBounds : List ℕ → Type 0
 IsInBounds outline = (0 < length outline) × (length outline ≤ 64)
 
 -- each key that isn't too long spells an outline, if it spells strokes
-spelt_outlines : (pairs : List Keyed) → find is_too_long pairs ≡ None → AllByRecursion IsInBounds (outlines_of (spelt pairs))
+spelt_outlines : (pairs : List Keyed) → find is_too_long pairs ≡ None → AllByRecursion IsInBounds (entry_outlines (spelt pairs))
 spelt_outlines [] e = tt
-spelt_outlines (p ∷ ps) e = let f = fails is_too_long p ps e in by (strokes_of p.key) refl f.0 (spelt_outlines ps f.1)
+spelt_outlines (p ∷ ps) e = let f = fails is_too_long p ps e in by (spelt_strokes p.key) refl f.0 (spelt_outlines ps f.1)
   where
-    by : (o : Option (List ℕ)) → strokes_of p.key ≡ o → nat_lt 64 (length (parts_of p.key)) && is_some (strokes_of p.key) ≡ false → AllByRecursion IsInBounds (outlines_of (spelt ps)) →
-        AllByRecursion IsInBounds (outlines_of (cons_option (option_map (λ strokes. record { outline = strokes; text = p.text }) o) (spelt ps)))
+    by : (o : Option (List ℕ)) → spelt_strokes p.key ≡ o → nat_lt 64 (length (parts_of p.key)) && is_some (spelt_strokes p.key) ≡ false → AllByRecursion IsInBounds (entry_outlines (spelt ps)) →
+        AllByRecursion IsInBounds (entry_outlines (cons_option (option_map (λ strokes. record { outline = strokes; text = p.text }) o) (spelt ps)))
     by None spells short rest = rest
     by (Some strokes) spells short rest =
-        let count = strokes_of-length p.key strokes spells in
+        let count = spelt_strokes-length p.key strokes spells in
         let few = ltb-false 64 (length (parts_of p.key)) (and_true _ (ap (λ o. nat_lt 64 (length (parts_of p.key)) && is_some o) (sym spells) ∙ short)) in
         ((omega (arith, count, length-slice_split (λ c. c == slash) p.key), omega (arith, count, few)), rest)
 
-in_order_outlines : (entries : List Entry) → AllByRecursion IsInBounds (outlines_of entries) → All IsInBounds (in_order (outlines_of entries))
+in_order_outlines : (entries : List Entry) → AllByRecursion IsInBounds (entry_outlines entries) → All IsInBounds (in_order (entry_outlines entries))
 in_order_outlines entries all k d below =
-    All-contains IsInBounds (outlines_of entries) _ (All-from_recursion IsInBounds (outlines_of entries) all) ((in_order-Contains (outlines_of entries) _).0 (Contains-get_or (in_order (outlines_of entries)) k d below))
+    All-contains IsInBounds (entry_outlines entries) _ (All-from_recursion IsInBounds (entry_outlines entries) all) ((in_order-Contains (entry_outlines entries) _).0 (Contains-get_or (in_order (entry_outlines entries)) k d below))
 
-all_back : (P : List ℕ → Type 0) (es : List Entry) → All P (outlines_of es) → All (λ e. P e.outline) es
-all_back P es all k d below = subst P (get_or-map (λ (e : Entry). e.outline) es k d d.outline below) (all k d.outline (let same : length (outlines_of es) ≡ length es = length-map es _ in omega (arith, same)))
+all_back : (P : List ℕ → Type 0) (es : List Entry) → All P (entry_outlines es) → All (λ e. P e.outline) es
+all_back P es all k d below = subst P (get_or-map (λ (e : Entry). e.outline) es k d d.outline below) (all k d.outline (let same : length (entry_outlines es) ≡ length es = length-map es _ in omega (arith, same)))
 
 dictionary-IsDictionary : (pairs : List Keyed) → find is_too_long pairs ≡ None → Rises Before (map (λ p. p.key) pairs) → length pairs < 2 ^ 32 → IsDictionary (dictionary_of pairs)
 dictionary-IsDictionary pairs short rises few =
     let es = spelt pairs in
     let all = subst (All IsInBounds) (sym (last_of_each-outlines es)) (in_order_outlines es (spelt_outlines pairs short)) in
     record {
-      are_entries = record { rising = subst AreRising (sym (last_of_each-outlines es)) (in_order-rising (outlines_of es)); not_empty = λ k d below. (all k d below).0 };
+      are_entries = record { rising = subst AreRising (sym (last_of_each-outlines es)) (in_order-rising (entry_outlines es)); not_empty = λ k d below. (all k d below).0 };
       are_short = λ k d below. (all_back IsInBounds (last_of_each es) all k d below).1;
-      skipped_rise = some_in_order (λ p. is_none (strokes_of p.key)) pairs rises;
+      skipped_rise = some_in_order (λ p. is_none (spelt_strokes p.key)) pairs rises;
       few_entries = omega (arith, last_of_each-length es, counted pairs);
       few_keys = omega (arith, counted pairs);
     }

@@ -8,11 +8,11 @@ use Rattle.std.proofs.lemmas.List.FromFn.{length-range_with_len}
 use Rattle.steno_rules.specs.Outlines.{IsStroke}
 use Rattle.steno_order.specs.Keys.{slash}
 use Rattle.steno_order.specs.Canonical.{canonical, canonical_text}
-use Rattle.steno_order.specs.Reading.{strokes_of}
+use Rattle.steno_order.specs.Reading.{spelt_strokes}
 use Rattle.steno_order.proofs.Ranges.{tested}
 use Rattle.std.proofs.lemmas.List.Elements.{All-from_recursion}
 use Rattle.steno_order.proofs.ListLaws.{canonical_text-back}
-use Rattle.dict_json.specs.Generated.{after_draws, stroke_number, stroke_text, key_text}
+use Rattle.dict_json.specs.Generated.{after_draws, entry_length, stroke_text, key_text}
 
 -- the codes of what left keys, vowels and right keys are written as
 abbrev left_codes : List ℕ
@@ -54,26 +54,26 @@ texts_are : (x : ℕ) (ks : List ℕ) → map canonical (codes_of x ks) ≡ map 
 texts_are x [] = refl
 texts_are x (k ∷ ks) = ap₂ (λ t ts. t ∷ ts) (code_stroke (after_draws k x % 2048) (omega arith)).1 (texts_are x ks)
 
-spells_strokes : (x n m : ℕ) → n ≡ suc m → strokes_of (canonical_text (codes_of x (range_with_len 1 n))) ≡ Some (codes_of x (range_with_len 1 n))
+spells_strokes : (x n m : ℕ) → n ≡ suc m → spelt_strokes (canonical_text (codes_of x (range_with_len 1 n))) ≡ Some (codes_of x (range_with_len 1 n))
 spells_strokes x n m e =
-    subst (λ k. strokes_of (canonical_text (codes_of x (range_with_len 1 k))) ≡ Some (codes_of x (range_with_len 1 k))) (sym e)
+    subst (λ k. spelt_strokes (canonical_text (codes_of x (range_with_len 1 k))) ≡ Some (codes_of x (range_with_len 1 k))) (sym e)
     (canonical_text-back (codes_of x (1 ∷ range_with_len 2 m)) (omega arith) (All-from_recursion IsStroke (codes_of x (1 ∷ range_with_len 2 m)) (strokes_are x (1 ∷ range_with_len 2 m))))
 
 -- a text that is the canonical one of at most 64 strokes, and spells them
 pub record IsCanonicalKey (name : List ℕ) : Type 0 where
   pub strokes : List ℕ
-  pub spells : strokes_of name ≡ Some strokes
+  pub spells : spelt_strokes name ≡ Some strokes
   pub written : canonical_text strokes ≡ name
   pub few : length strokes ≤ 64
 
 pub key_canonical : (x : ℕ) → IsCanonicalKey (key_text x)
 key_canonical x =
-    let ks = range_with_len 1 (stroke_number x) in
+    let ks = range_with_len 1 (entry_length x) in
     let written : canonical_text (codes_of x ks) ≡ key_text x = ap (join_with_byte slash) (texts_are x ks) in
     let count : length (codes_of x ks) ≡ length ks = length-map ks (λ k. code_at (after_draws k x % 2048)) in
     record {
       strokes = codes_of x ks;
-      spells = ap strokes_of (sym written) ∙ spells_strokes x (stroke_number x) (x % 3) (omega arith);
+      spells = ap spelt_strokes (sym written) ∙ spells_strokes x (entry_length x) (x % 3) (omega arith);
       written = written;
-      few = omega (arith, count, length-range_with_len 1 (stroke_number x));
+      few = omega (arith, count, length-range_with_len 1 (entry_length x));
     }

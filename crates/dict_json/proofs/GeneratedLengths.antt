@@ -6,7 +6,7 @@ use Rattle.std.proofs.lemmas.List.{length-append}
 use Rattle.std.proofs.lemmas.List.FromFn.{length-range_with_len}
 use Rattle.std.proofs.lemmas.Fmt.{length-decimal-le}
 use Rattle.steno_order.specs.Keys.{slash}
-use Rattle.dict_json.specs.Generated.{left_texts, vowel_texts, right_texts, after_draws, stroke_number, stroke_text, first_draw, key_text, key_of, is_new, member_text, generated_text}
+use Rattle.dict_json.specs.Generated.{left_texts, vowel_texts, right_texts, after_draws, entry_length, stroke_text, first_draw, key_text, key_of, is_new, member_text, generated_text}
 use Rattle.dict_json.proofs.PlainTexts.{key_plain, member_plain}
 
 -- each text of a table has at most 4 bytes
@@ -35,8 +35,8 @@ join_short f (k ∷ l ∷ ks) h = omega (arith, h k, join_short f (l ∷ ks) h, 
 
 key_short : (x : ℕ) → length (key_text x) ≤ 39
 key_short x =
-    let ks = range_with_len 1 (stroke_number x) in
-    omega (arith, join_short (λ k. stroke_text (after_draws k x % 2048)) ks (λ k. stroke_short (after_draws k x % 2048)), length-range_with_len 1 (stroke_number x))
+    let ks = range_with_len 1 (entry_length x) in
+    omega (arith, join_short (λ k. stroke_text (after_draws k x % 2048)) ks (λ k. stroke_short (after_draws k x % 2048)), length-range_with_len 1 (entry_length x))
 
 member_short : (start i : ℕ) → i < 10 ^ 6 → length (member_text start i) ≤ 66
 member_short start i small =

@@ -11,11 +11,11 @@ use Rattle.steno_rules.specs.Outlines.{outline_cmp}
 use Rattle.steno_rules.specs.Nodes.{insert_new}
 use Rattle.steno_rules.proofs.Lists.{in_cons, in_first, in_later, in_map, none_in_nil}
 use Rattle.steno_rules.proofs.Rising.{Rises, rises_of_pairs, below_itself}
-use Rattle.steno_order.specs.Reading.{strokes_of}
+use Rattle.steno_order.specs.Reading.{spelt_strokes}
 use Rattle.steno_order.specs.Spelling.{parts_of}
 use Rattle.steno_order.specs.Canonical.{canonical_text}
 use Rattle.dict_json.specs.Reading.{Member, Keyed, keyed, members_of, names_of, reading}
-use Rattle.dict_json.specs.Dictionaries.{DictionaryView, IsWhole, outlines_of, in_order, spelt, last_of_each, skipped_of, dictionary_of}
+use Rattle.dict_json.specs.Dictionaries.{DictionaryView, IsWhole, entry_outlines, in_order, spelt, last_of_each, skipped_of, dictionary_of}
 use Rattle.dict_json.specs.Outcomes.{is_too_long, keys_outcome, members_outcome, object_outcome, value_outcome, dictionary_outcome, dictionary}
 use Rattle.dict_json.specs.Generated.{first_draw, key_of, is_new, generated_text}
 use Rattle.dict_json.proofs.Distinct.{AreDistinct, in_order-length}
@@ -23,7 +23,7 @@ use Rattle.dict_json.proofs.InOrder.{in_order-rising, in_order-Contains}
 use Rattle.dict_json.proofs.GeneratedKeys.{IsCanonicalKey, key_canonical}
 use Rattle.dict_json.proofs.GeneratedTokens.{value_of, with_members, read_object}
 use Rattle.dict_json.proofs.KeyOrder.{put_names}
-use Rattle.dict_json.proofs.Parts.{strokes_of-length}
+use Rattle.dict_json.proofs.Parts.{spelt_strokes-length}
 use Rattle.dict_json.proofs.ReadingLemmas.{reading-of_text}
 use Rattle.serde_json.proofs.OnLiterals.{serde_json_on_literals}
 use Rattle.std.specs.Str.{IsUtf8, is_utf8, chars}
@@ -64,22 +64,22 @@ record AreKeys (pairs : List Keyed) : Type 0 where
 
 none_skipped : (pairs : List Keyed) → AllByRecursion IsCanonicalKey (map (λ p. p.key) pairs) → skipped_of pairs ≡ []
 none_skipped [] h = refl
-none_skipped (p ∷ ps) h = ap (λ o. map (λ (q : Keyed). q.key) (cond (is_none o) (p ∷ filter (λ q. is_none (strokes_of q.key)) ps) (filter (λ q. is_none (strokes_of q.key)) ps))) h.0.spells ∙ none_skipped ps h.1
+none_skipped (p ∷ ps) h = ap (λ o. map (λ (q : Keyed). q.key) (cond (is_none o) (p ∷ filter (λ q. is_none (spelt_strokes q.key)) ps) (filter (λ q. is_none (spelt_strokes q.key)) ps))) h.0.spells ∙ none_skipped ps h.1
 
 none_long : (pairs : List Keyed) → AllByRecursion IsCanonicalKey (map (λ p. p.key) pairs) → find is_too_long pairs ≡ None
 none_long [] h = refl
 none_long (p ∷ ps) h =
-    let short = le-ltb 64 (length (parts_of p.key)) (omega (arith, h.0.few, strokes_of-length p.key h.0.strokes h.0.spells)) in
-    ap (λ b. cond (b && is_some (strokes_of p.key)) (Some p) (find is_too_long ps)) short ∙ none_long ps h.1
+    let short = le-ltb 64 (length (parts_of p.key)) (omega (arith, h.0.few, spelt_strokes-length p.key h.0.strokes h.0.spells)) in
+    ap (λ b. cond (b && is_some (spelt_strokes p.key)) (Some p) (find is_too_long ps)) short ∙ none_long ps h.1
 
-spelt_first : (p : Keyed) (ps : List Keyed) (strokes : List ℕ) → strokes_of p.key ≡ Some strokes → spelt (p ∷ ps) ≡ record { outline = strokes; text = p.text } ∷ spelt ps
+spelt_first : (p : Keyed) (ps : List Keyed) (strokes : List ℕ) → spelt_strokes p.key ≡ Some strokes → spelt (p ∷ ps) ≡ record { outline = strokes; text = p.text } ∷ spelt ps
 spelt_first p ps strokes spells = ap (λ o. cons_option (option_map (λ s. record { outline = s; text = p.text }) o) (spelt ps)) spells
 
 -- an outline that is there has its canonical text among the keys
-spelt_from : (pairs : List Keyed) (outline : List ℕ) → AllByRecursion IsCanonicalKey (map (λ p. p.key) pairs) → Contains (outlines_of (spelt pairs)) outline → Contains (map (λ p. p.key) pairs) (canonical_text outline)
+spelt_from : (pairs : List Keyed) (outline : List ℕ) → AllByRecursion IsCanonicalKey (map (λ p. p.key) pairs) → Contains (entry_outlines (spelt pairs)) outline → Contains (map (λ p. p.key) pairs) (canonical_text outline)
 spelt_from [] outline h has = absurd (none_in_nil outline has)
 spelt_from (p ∷ ps) outline h has =
-    elim (in_cons h.0.strokes (outlines_of (spelt ps)) outline (subst (λ es. Contains (outlines_of es) outline) (spelt_first p ps h.0.strokes h.0.spells) has)) [
+    elim (in_cons h.0.strokes (entry_outlines (spelt ps)) outline (subst (λ es. Contains (entry_outlines es) outline) (spelt_first p ps h.0.strokes h.0.spells) has)) [
       | inl is ↦ subst (Contains (p.key ∷ map (λ q. q.key) ps)) (sym h.0.written ∙ ap canonical_text is) (in_first p.key (map (λ q. q.key) ps))
       | inr later ↦ in_later p.key (map (λ q. q.key) ps) (canonical_text outline) (spelt_from ps outline h.1 later)
     ]
@@ -91,12 +91,12 @@ not_later x (y ∷ ys) all has = elim (in_cons y ys x has) [
   | inr later ↦ not_later x ys all.1 later
 ]
 
-spelt_distinct : (pairs : List Keyed) → AreKeys pairs → AreDistinct (outlines_of (spelt pairs))
+spelt_distinct : (pairs : List Keyed) → AreKeys pairs → AreDistinct (entry_outlines (spelt pairs))
 unfolding Rises
 spelt_distinct [] h = tt
 spelt_distinct (p ∷ ps) h =
     let first = h.canonical.0 in
-    subst (λ es. AreDistinct (outlines_of es)) (sym (spelt_first p ps first.strokes first.spells)) (
+    subst (λ es. AreDistinct (entry_outlines es)) (sym (spelt_first p ps first.strokes first.spells)) (
       λ has. not_later p.key (map (λ q. q.key) ps) h.rising.0 (subst (Contains (map (λ q. q.key) ps)) first.written (spelt_from ps first.strokes h.canonical.1 has)),
       spelt_distinct ps (record { rising = h.rising.1; canonical = h.canonical.1 }),
     )
@@ -104,9 +104,9 @@ spelt_distinct (p ∷ ps) h =
 keys_whole : (pairs : List Keyed) → AreKeys pairs → IsWhole (dictionary_of pairs)
 keys_whole pairs h =
     let es = spelt pairs in
-    let made : length (last_of_each es) ≡ length (in_order (outlines_of es)) = length-map (in_order (outlines_of es)) _ in
-    let outlines : length (outlines_of es) ≡ length es = length-map es _ in
-    record { none_skipped = none_skipped pairs h.canonical; none_folded = omega (arith, made, outlines, in_order-length (outlines_of es) (spelt_distinct pairs h)) }
+    let made : length (last_of_each es) ≡ length (in_order (entry_outlines es)) = length-map (in_order (entry_outlines es)) _ in
+    let outlines : length (entry_outlines es) ≡ length es = length-map es _ in
+    record { none_skipped = none_skipped pairs h.canonical; none_folded = omega (arith, made, outlines, in_order-length (entry_outlines es) (spelt_distinct pairs h)) }
 
 -- ---- members
 

@@ -12,7 +12,7 @@ use Rattle.std.specs.Option.{option_map_or}
 use Rattle.steno_rules.specs.Outlines.{outline_cmp}
 use Rattle.steno_rules.proofs.Lists.{none_in_nil, in_cons, in_first, in_later, in_map, in_map_of}
 use Rattle.steno_rules.proofs.Rising.{Rises, pairs_of_rises, rising_same}
-use Rattle.dict_json.specs.Dictionaries.{Entry, outlines_of, in_order, has_outline, standing, last_of_each}
+use Rattle.dict_json.specs.Dictionaries.{Entry, entry_outlines, in_order, has_outline, standing, last_of_each}
 use Rattle.dict_json.proofs.InOrder.{in_order-rising, in_order-Contains}
 
 -- the first entry's outline comes before the second one's
@@ -86,12 +86,12 @@ abbrev Before : List ℕ → List ℕ → Type 0
 Before a b = outline_cmp a b ≡ Less
 
 -- rising entries by their outlines
-rises_of : (xs : List Entry) → IsStrictlySortedBy (on (λ (e : Entry). e.outline) outline_cmp) xs → Rises Before (outlines_of xs)
+rises_of : (xs : List Entry) → IsStrictlySortedBy (on (λ (e : Entry). e.outline) outline_cmp) xs → Rises Before (entry_outlines xs)
 unfolding Rises IsStrictlySortedBy
 rises_of [] h = tt
 rises_of (x ∷ xs) h = (above x xs h.0, rises_of xs h.1)
   where
-    above : (y : Entry) (ys : List Entry) → AllByRecursion (λ z. outline_cmp y.outline z.outline ≡ Less) ys → AllByRecursion (λ z. outline_cmp y.outline z ≡ Less) (outlines_of ys)
+    above : (y : Entry) (ys : List Entry) → AllByRecursion (λ z. outline_cmp y.outline z.outline ≡ Less) ys → AllByRecursion (λ z. outline_cmp y.outline z ≡ Less) (entry_outlines ys)
     above y [] all = tt
     above y (z ∷ ys) all = (all.0, above y ys all.1)
 
@@ -104,40 +104,40 @@ later_is_other x (y ∷ ys) z all h = elim (in_cons y ys z h) [
 ]
 
 -- so each rising entry is the one of its outline
-find_own : (xs : List Entry) (e : Entry) → Rises Before (outlines_of xs) → Contains xs e → find (has_outline e.outline) xs ≡ Some e
+find_own : (xs : List Entry) (e : Entry) → Rises Before (entry_outlines xs) → Contains xs e → find (has_outline e.outline) xs ≡ Some e
 unfolding Rises
 find_own [] e h has = absurd (none_in_nil e has)
 find_own (x ∷ xs) e h has = elim (in_cons x xs e has) [
   | inl is ↦ ap (λ b. cond b (Some x) (find (has_outline e.outline) xs)) ((bytes_decides x.outline e.outline).1 (ap (λ (z : Entry). z.outline) is)) ∙ ap Some is
-  | inr later ↦ ap (λ b. cond b (Some x) (find (has_outline e.outline) xs)) (later_is_other x.outline (outlines_of xs) e.outline h.0 (in_map_of (λ (z : Entry). z.outline) xs e later)) ∙ find_own xs e h.1 later
+  | inr later ↦ ap (λ b. cond b (Some x) (find (has_outline e.outline) xs)) (later_is_other x.outline (entry_outlines xs) e.outline h.0 (in_map_of (λ (z : Entry). z.outline) xs e later)) ∙ find_own xs e h.1 later
 ]
 
-map_back : (f : List ℕ → Entry) (xs : List Entry) → ((x : Entry) → Contains xs x → f x.outline ≡ x) → map f (outlines_of xs) ≡ xs
+map_back : (f : List ℕ → Entry) (xs : List Entry) → ((x : Entry) → Contains xs x → f x.outline ≡ x) → map f (entry_outlines xs) ≡ xs
 map_back f [] same = refl
 map_back f (x ∷ xs) same = ap₂ (λ y l. y ∷ l) (same x (in_first x xs)) (map_back f xs (λ y has. same y (in_later x xs y has)))
 
 -- what is left are the last ones of each outline
 module _ (entries turned sorted : List Entry) (is : turned ≡ reverse entries) (moved : IsPermutation turned sorted) (up : IsSortedBy is_before sorted) (stable : IsStableBy is_before turned sorted) where
-  rises : Rises Before (outlines_of (dedup is_same sorted))
+  rises : Rises Before (entry_outlines (dedup is_same sorted))
   rises = rises_of (dedup is_same sorted) (IsStrictlySortedBy-dedup (on_texts (λ (e : Entry). e.outline)) (λ a b. texts_ties a.outline b.outline) sorted up)
 
   elements : IsPermutation entries sorted
   elements = IsPermutation-trans entries turned sorted (subst (IsPermutation entries) (sym is) (IsPermutation-reverse entries)) moved
 
-  from_entries : (z : List ℕ) → Contains (outlines_of (dedup is_same sorted)) z → Contains (outlines_of entries) z
+  from_entries : (z : List ℕ) → Contains (entry_outlines (dedup is_same sorted)) z → Contains (entry_outlines entries) z
   from_entries z h =
       let found = in_map (λ (e : Entry). e.outline) (dedup is_same sorted) z h in
       let there = Contains-permutation sorted entries found.0 (IsPermutation-sym entries sorted elements) (Contains-from_dedup is_same sorted found.0 found.1) in
-      subst (Contains (outlines_of entries)) found.2 (in_map_of (λ (e : Entry). e.outline) entries found.0 there)
+      subst (Contains (entry_outlines entries)) found.2 (in_map_of (λ (e : Entry). e.outline) entries found.0 there)
 
-  of_entries : (z : List ℕ) → Contains (outlines_of entries) z → Contains (outlines_of (dedup is_same sorted)) z
+  of_entries : (z : List ℕ) → Contains (entry_outlines entries) z → Contains (entry_outlines (dedup is_same sorted)) z
   of_entries z h =
       let found = in_map (λ (e : Entry). e.outline) entries z h in
       let kept = Any-dedup (on_texts_equal (λ (e : Entry). e.outline)) sorted found.0 (Contains-permutation entries sorted found.0 elements found.1) in
-      subst (Contains (outlines_of (dedup is_same sorted))) (sym ((bytes_decides found.0.outline kept.1.outline).0 kept.4) ∙ found.2) (in_map_of (λ (e : Entry). e.outline) (dedup is_same sorted) kept.1 (kept.0, kept.2, kept.3))
+      subst (Contains (entry_outlines (dedup is_same sorted))) (sym ((bytes_decides found.0.outline kept.1.outline).0 kept.4) ∙ found.2) (in_map_of (λ (e : Entry). e.outline) (dedup is_same sorted) kept.1 (kept.0, kept.2, kept.3))
 
-  outlines : in_order (outlines_of entries) ≡ outlines_of (dedup is_same sorted)
-  outlines = rising_same outline_cmp nat_list_cmp_total _ _ (in_order-rising (outlines_of entries)) (pairs_of_rises Before _ rises) (λ z. (λ h. of_entries z ((in_order-Contains (outlines_of entries) z).0 h), λ h. (in_order-Contains (outlines_of entries) z).1 (from_entries z h)))
+  outlines : in_order (entry_outlines entries) ≡ entry_outlines (dedup is_same sorted)
+  outlines = rising_same outline_cmp nat_list_cmp_total _ _ (in_order-rising (entry_outlines entries)) (pairs_of_rises Before _ rises) (λ z. (λ h. of_entries z ((in_order-Contains (entry_outlines entries) z).0 h), λ h. (in_order-Contains (entry_outlines entries) z).1 (from_entries z h)))
 
   stands : (e : Entry) → Contains (dedup is_same sorted) e → record { outline = e.outline; text = standing entries e.outline } ≡ e
   stands e has =

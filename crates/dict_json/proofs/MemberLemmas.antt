@@ -9,7 +9,7 @@ use Rattle.serde_json.specs.View.{view}
 use Rattle.serde_json.specs.declared.value.Value as json
 use Rattle.serde_json.specs.declared.value.Value.{Value, the_lemmas}
 use Rattle.dict_json.specs.Reading.{Member, Keyed, keyed}
-use Rattle.dict_json.specs.Walks.{KeysView, walked}
+use Rattle.dict_json.specs.inside.Walks.{KeysView, walked}
 use Rattle.dict_json.specs.Outcomes.{not_text, members_outcome}
 
 -- the members walked so far are texts, and the walk has collected their keys

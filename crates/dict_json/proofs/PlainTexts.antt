@@ -7,7 +7,7 @@ use Rattle.std.proofs.lemmas.Grind.{flat_map-append}
 use Rattle.std.proofs.lemmas.Fmt.{decimal_by_steps}
 use Rattle.json.specs.Print.{escape_byte}
 use Rattle.steno_order.specs.Keys.{slash}
-use Rattle.dict_json.specs.Generated.{left_texts, vowel_texts, right_texts, after_draws, stroke_number, stroke_text, key_text}
+use Rattle.dict_json.specs.Generated.{left_texts, vowel_texts, right_texts, after_draws, entry_length, stroke_text, key_text}
 use Rattle.text_rules.specs.Quoted.{escaped, quoted}
 
 module _ (write : ℕ → List ℕ) where
@@ -38,7 +38,7 @@ module _ (write : ℕ → List ℕ) where
   generated_plain : are_plain left_texts ≡ true → are_plain vowel_texts ≡ true → are_plain right_texts ≡ true → IsPlain (slash ∷ []) → (x : ℕ) → IsPlain (key_text x)
   generated_plain left vowels right one x =
       let stroke = λ (y : ℕ). plain_append _ _ (plain_append _ _ (table_plain left_texts (y % 16) left) (table_plain vowel_texts (y / 16 % 8) vowels)) (table_plain right_texts (y / 128) right) in
-      join_plain one (λ k. stroke_text (after_draws k x % 2048)) (range_with_len 1 (stroke_number x)) (λ k. stroke (after_draws k x % 2048))
+      join_plain one (λ k. stroke_text (after_draws k x % 2048)) (range_with_len 1 (entry_length x)) (λ k. stroke (after_draws k x % 2048))
 
 -- ---- between quotes
 

@@ -5,13 +5,13 @@ use Rattle.std.proofs.lemmas.List.{append-nil}
 use Rattle.std.proofs.lemmas.List.Elements.{filter-append, filter_map-append}
 use Rattle.std.proofs.lemmas.List.Folds.{find-append}
 use Rattle.std.proofs.lemmas.Bool.{lt-ltb, le-ltb}
-use Rattle.steno_order.specs.Reading.{strokes_of}
+use Rattle.steno_order.specs.Reading.{spelt_strokes}
 use Rattle.steno_order.specs.Spelling.{parts_of}
 use Rattle.dict_json.specs.Reading.{Keyed}
 use Rattle.dict_json.specs.Dictionaries.{spelt, skipped_of}
 use Rattle.dict_json.specs.Outcomes.{is_too_long}
-use Rattle.dict_json.specs.Walks.{KeysView, walked}
-use Rattle.dict_json.proofs.Parts.{strokes_of-length}
+use Rattle.dict_json.specs.inside.Walks.{KeysView, walked}
+use Rattle.dict_json.proofs.Parts.{spelt_strokes-length}
 
 -- what follows from a fact of Ok
 pub on_ok : {T E : Type 0} (r : Result T E) (P Q : Type 0) → OnOk r P → (P → Q) → OnOk r Q
@@ -42,7 +42,7 @@ entries-push : (pairs : List Keyed) (p : Keyed) → (walked (pairs ++ p ∷ []))
 entries-push pairs p = ap spelt (filter-append (λ q. not (is_too_long q)) pairs (p ∷ [])) ∙ filter_map-append _ (filter (λ q. not (is_too_long q)) pairs) (filter (λ q. not (is_too_long q)) (p ∷ []))
 
 skipped-push : (pairs : List Keyed) (p : Keyed) → skipped_of (pairs ++ p ∷ []) ≡ skipped_of pairs ++ skipped_of (p ∷ [])
-skipped-push pairs p = ap (map (λ q. q.key)) (filter-append (λ q. is_none (strokes_of q.key)) pairs (p ∷ [])) ∙ map_append _ (filter (λ q. is_none (strokes_of q.key)) pairs) (filter (λ q. is_none (strokes_of q.key)) (p ∷ []))
+skipped-push pairs p = ap (map (λ q. q.key)) (filter-append (λ q. is_none (spelt_strokes q.key)) pairs (p ∷ [])) ∙ map_append _ (filter (λ q. is_none (spelt_strokes q.key)) pairs) (filter (λ q. is_none (spelt_strokes q.key)) (p ∷ []))
 
 too_long-push : (pairs : List Keyed) (p : Keyed) → (walked (pairs ++ p ∷ [])).too_long ≡ option_or (walked pairs).too_long (walked (p ∷ [])).too_long
 too_long-push pairs p = ap (option_map (λ (q : Keyed). (q.key, length (parts_of q.key)))) (find-append is_too_long pairs (p ∷ [])) ∙ map_or _ (find is_too_long pairs) (find is_too_long (p ∷ []))
@@ -74,35 +74,35 @@ over : {X Y : Type 0} (f : X → Y) (b : Bool) (x y : X) → f (cond b x y) ≡ 
 over f true x y = refl
 over f false x y = refl
 
-walked_one : (p : Keyed) → walked (p ∷ []) ≡ one (nat_lt 64 (length (parts_of p.key))) (strokes_of p.key) p
+walked_one : (p : Keyed) → walked (p ∷ []) ≡ one (nat_lt 64 (length (parts_of p.key))) (spelt_strokes p.key) p
 walked_one p =
     (λ i. record {
       entries = over spelt (not (is_too_long p)) (p ∷ []) [] i;
-      skipped = over (map (λ (q : Keyed). q.key)) (is_none (strokes_of p.key)) (p ∷ []) [] i;
+      skipped = over (map (λ (q : Keyed). q.key)) (is_none (spelt_strokes p.key)) (p ∷ []) [] i;
       too_long = over (option_map (λ (q : Keyed). (q.key, length (parts_of q.key)))) (is_too_long p) (Some p) None i;
-    }) ∙ tested-one (nat_lt 64 (length (parts_of p.key))) (strokes_of p.key) p
+    }) ∙ tested-one (nat_lt 64 (length (parts_of p.key))) (spelt_strokes p.key) p
 
 module _ (pairs : List Keyed) (k : KeysView) (key text : List ℕ) (is : k ≡ walked pairs) where
-  added : (many : Bool) (o : Option (List ℕ)) → nat_lt 64 (length (parts_of key)) ≡ many → strokes_of key ≡ o → walked (pairs ++ record { key = key; text = text } ∷ []) ≡ joined k (one many o (record { key = key; text = text }))
+  added : (many : Bool) (o : Option (List ℕ)) → nat_lt 64 (length (parts_of key)) ≡ many → spelt_strokes key ≡ o → walked (pairs ++ record { key = key; text = text } ∷ []) ≡ joined k (one many o (record { key = key; text = text }))
   added many o long spells = walked-push pairs (record { key = key; text = text }) ∙ (λ i. joined (sym is i) ((walked_one (record { key = key; text = text }) ∙ (λ j. one (long j) (spells j) (record { key = key; text = text }))) i))
 
   -- a readable key
-  pub adds_entry : (strokes : List ℕ) → strokes_of key ≡ Some strokes → length strokes ≤ 64 →
+  pub adds_entry : (strokes : List ℕ) → spelt_strokes key ≡ Some strokes → length strokes ≤ 64 →
       record { entries = k.entries ++ record { outline = strokes; text = text } ∷ []; skipped = k.skipped; too_long = k.too_long } ≡ walked (pairs ++ record { key = key; text = text } ∷ [])
   adds_entry strokes spells short =
-      sym (added false (Some strokes) (le-ltb 64 (length (parts_of key)) (omega (arith, strokes_of-length key strokes spells))) spells
+      sym (added false (Some strokes) (le-ltb 64 (length (parts_of key)) (omega (arith, spelt_strokes-length key strokes spells))) spells
       ∙ (λ i. record { entries = k.entries ++ record { outline = strokes; text = text } ∷ []; skipped = append-nil k.skipped i; too_long = or_none k.too_long i }))
 
   -- a key with an unreadable part
-  pub adds_skipped : strokes_of key ≡ None → record { entries = k.entries; skipped = k.skipped ++ key ∷ []; too_long = k.too_long } ≡ walked (pairs ++ record { key = key; text = text } ∷ [])
+  pub adds_skipped : spelt_strokes key ≡ None → record { entries = k.entries; skipped = k.skipped ++ key ∷ []; too_long = k.too_long } ≡ walked (pairs ++ record { key = key; text = text } ∷ [])
   adds_skipped spells =
       sym (added (nat_lt 64 (length (parts_of key))) None refl spells
       ∙ (λ i. record { entries = append-nil k.entries i; skipped = k.skipped ++ key ∷ []; too_long = or_none k.too_long i }))
 
   -- a key that is too long
-  pub adds_too_long : (strokes : List ℕ) (parts : ℕ) → strokes_of key ≡ Some strokes → length strokes ≡ parts → 64 < parts →
+  pub adds_too_long : (strokes : List ℕ) (parts : ℕ) → spelt_strokes key ≡ Some strokes → length strokes ≡ parts → 64 < parts →
       record { entries = k.entries; skipped = k.skipped; too_long = option_or k.too_long (Some (key, parts)) } ≡ walked (pairs ++ record { key = key; text = text } ∷ [])
   adds_too_long strokes parts spells count long =
-      let all = sym (strokes_of-length key strokes spells) ∙ count in
+      let all = sym (spelt_strokes-length key strokes spells) ∙ count in
       sym (added true (Some strokes) (lt-ltb 64 (length (parts_of key)) (omega (arith, all))) spells
       ∙ (λ i. record { entries = append-nil k.entries i; skipped = append-nil k.skipped i; too_long = option_or k.too_long (Some (key, all i)) }))

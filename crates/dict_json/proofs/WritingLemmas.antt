@@ -6,7 +6,7 @@ use Rattle.std.proofs.lemmas.Grind.{flat_map-append}
 use Rattle.std.proofs.lemmas.List.Elements.{filter-append}
 use Rattle.std.proofs.lemmas.List.Folds.{list_any-append}
 use Rattle.std.proofs.lemmas.Slice.Eq.{bytes_eq-Decides}
-use Rattle.dict_json.specs.Generated.{drawn, after_draws, first_draw, key_text, key_of, is_new, member_text, stroke_number}
+use Rattle.dict_json.specs.Generated.{drawn, after_draws, first_draw, key_text, key_of, is_new, member_text, entry_length}
 
 -- the entries below i are done; `has` tells which keys were written
 pub record IsWriting (start i value : ℕ) (has : List ℕ → Bool) (members : List ℕ) : Type 0 where
@@ -38,9 +38,9 @@ text_more start (suc m) =
     join_more (member_text start) (codes ",\n") 0 (filter (is_new start) (range_with_len (0 + 1) m)) (suc m)
     ∙ ap (λ b. join_by (member_text start) (codes ",\n") (filter (is_new start) (range_with_len 0 (suc m))) ++ ((if b then codes ",\n" else []) ++ member_text start (suc m))) (sym (lt-ltb 0 (suc m) (omega arith)))
 
-module _ (start i value next : ℕ) (has : List ℕ → Bool) (members : List ℕ) (w : IsWriting start i value has members) (drew : next ≡ after_draws (stroke_number (drawn value)) (drawn value)) where
+module _ (start i value next : ℕ) (has : List ℕ → Bool) (members : List ℕ) (w : IsWriting start i value has members) (drew : next ≡ after_draws (entry_length (drawn value)) (drawn value)) where
   draws_more : drawn next ≡ first_draw start (suc i)
-  draws_more = ap drawn drew ∙ ap (λ x. drawn (after_draws (stroke_number x) x)) w.draws
+  draws_more = ap drawn drew ∙ ap (λ x. drawn (after_draws (entry_length x) x)) w.draws
 
   pub key_here : key_text (drawn value) ≡ key_of start i
   key_here = ap key_text w.draws

@@ -7,7 +7,7 @@ use Rattle.std.specs.Option.{option_map_or}
 use Rattle.std.specs.Cmp.Lexicographic.{pointwise}
 use Rattle.steno_rules.specs.Nodes.{insert_new}
 use Rattle.steno_rules.specs.Outlines.{AreEntries}
-use Rattle.steno_order.specs.Reading.{strokes_of}
+use Rattle.steno_order.specs.Reading.{spelt_strokes}
 use Rattle.dict_json.specs.Reading.{Keyed, AreInOrder}
 
 -- an outline and its text
@@ -22,8 +22,8 @@ pub record DictionaryView : Type 0 where
   pub folded : ℕ
 
 -- the outlines of entries
-abbrev pub outlines_of : List Entry → List (List ℕ)
-outlines_of entries = map (λ e. e.outline) entries
+abbrev pub entry_outlines : List Entry → List (List ℕ)
+entry_outlines entries = map (λ e. e.outline) entries
 
 -- the outlines in their order, each once
 abbrev pub in_order : List (List ℕ) → List (List ℕ)
@@ -31,7 +31,7 @@ in_order outlines = fold insert_new [] outlines
 
 -- what each readable key spells, with its text
 abbrev pub spelt : List Keyed → List Entry
-spelt pairs = filter_map (λ p. option_map (λ strokes. record { outline = strokes; text = p.text }) (strokes_of p.key)) pairs
+spelt pairs = filter_map (λ p. option_map (λ strokes. record { outline = strokes; text = p.text }) (spelt_strokes p.key)) pairs
 
 -- the entry has this outline
 abbrev pub has_outline : List ℕ → Entry → Bool
@@ -43,11 +43,11 @@ standing entries outline = option_map_or (λ e. e.text) (find (has_outline outli
 
 -- each outline of the entries once, in outline order, with the text that stands for it
 abbrev pub last_of_each : List Entry → List Entry
-last_of_each entries = map (λ outline. record { outline = outline; text = standing entries outline }) (in_order (outlines_of entries))
+last_of_each entries = map (λ outline. record { outline = outline; text = standing entries outline }) (in_order (entry_outlines entries))
 
 -- the keys that have a part which spells no stroke
 abbrev pub skipped_of : List Keyed → List (List ℕ)
-skipped_of pairs = map (λ p. p.key) (filter (λ p. is_none (strokes_of p.key)) pairs)
+skipped_of pairs = map (λ p. p.key) (filter (λ p. is_none (spelt_strokes p.key)) pairs)
 
 -- of the keys that spell one outline the last stands, which is the greatest, and the others are folded
 abbrev pub dictionary_of : List Keyed → DictionaryView
@@ -56,7 +56,7 @@ dictionary_of pairs = record { entries = last_of_each (spelt pairs); skipped = s
 -- the entries are in strictly rising order, none of them empty or longer than 64 strokes; the skipped keys are in order of
 -- their bytes; and all numbers are below 2^32
 pub record IsDictionary (d : DictionaryView) : Type 0 where
-  pub are_entries : AreEntries (outlines_of d.entries)
+  pub are_entries : AreEntries (entry_outlines d.entries)
   pub are_short : All (λ e. length e.outline ≤ 64) d.entries
   pub skipped_rise : AreInOrder d.skipped
   pub few_entries : length d.entries < 2 ^ 32

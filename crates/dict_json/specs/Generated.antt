@@ -10,21 +10,21 @@ use Rattle.text_rules.specs.Lines.{parts_between}
 use Rattle.text_rules.specs.Quoted.{quoted}
 use Rattle.steno_order.specs.Keys.{slash}
 
--- the words of a text, with a space between each two
-abbrev pub words : List ℕ → List (List ℕ)
-words text = parts_between 32 text
+-- the spaced_texts of a text, with a space between each two
+abbrev pub spaced_texts : List ℕ → List (List ℕ)
+spaced_texts text = parts_between 32 text
 
 -- what a stroke's left keys are written as, by the place of the text
 abbrev pub left_texts : List (List ℕ)
-left_texts = [] ∷ words (codes "S T K P W H R ST TP KW PH HR TKPW SKWR STPH")
+left_texts = [] ∷ spaced_texts (codes "S T K P W H R ST TP KW PH HR TKPW SKWR STPH")
 
 -- what its vowels are written as
 abbrev pub vowel_texts : List (List ℕ)
-vowel_texts = words (codes "A O E U AO AE EU AOEU")
+vowel_texts = spaced_texts (codes "A O E U AO AE EU AOEU")
 
 -- what its right keys are written as
 abbrev pub right_texts : List (List ℕ)
-right_texts = [] ∷ words (codes "F R P B L G T S D Z PB PL BG TS FRPB")
+right_texts = [] ∷ spaced_texts (codes "F R P B L G T S D Z PB PL BG TS FRPB")
 
 -- the draw after x
 abbrev pub drawn : ℕ → ℕ
@@ -40,17 +40,17 @@ abbrev pub stroke_text : ℕ → List ℕ
 stroke_text y = slice_index_or left_texts (y % 16) [] ++ slice_index_or vowel_texts (y / 16 % 8) [] ++ slice_index_or right_texts (y / 128) []
 
 -- how many strokes an entry has whose first draw gives x
-abbrev pub stroke_number : ℕ → ℕ
-stroke_number x = 1 + x % 3
+abbrev pub entry_length : ℕ → ℕ
+entry_length x = 1 + x % 3
 
 -- what the first draw of entry i gives
 abbrev pub first_draw : ℕ → ℕ → ℕ
 first_draw start zero = drawn (start % 2147483646 + 1)
-first_draw start (suc i) = let x = first_draw start i in drawn (after_draws (stroke_number x) x)
+first_draw start (suc i) = let x = first_draw start i in drawn (after_draws (entry_length x) x)
 
 -- the key whose first draw gives x: each further draw makes a stroke
 abbrev pub key_text : ℕ → List ℕ
-key_text x = join_with_byte slash (map (λ k. stroke_text (after_draws k x % 2048)) (range_with_len 1 (stroke_number x)))
+key_text x = join_with_byte slash (map (λ k. stroke_text (after_draws k x % 2048)) (range_with_len 1 (entry_length x)))
 
 -- the key of entry i
 abbrev pub key_of : ℕ → ℕ → List ℕ

@@ -2,5 +2,5 @@ pub mod Reading
 pub mod Dictionaries
 pub mod Outcomes
 pub mod Faults
-pub mod Walks
 pub mod Generated
+pub mod inside

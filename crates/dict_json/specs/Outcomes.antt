@@ -4,7 +4,7 @@ use Rattle.std.specs.Prelude.{ℕ, List, Bool, ◌&&◌, nat_lt, length, find, f
 use Rattle.serde_json.specs.Data.{Data, Members}
 use Rattle.serde_json.specs.Find.{as_object}
 use Rattle.steno_order.specs.Spelling.{parts_of}
-use Rattle.steno_order.specs.Reading.{strokes_of}
+use Rattle.steno_order.specs.Reading.{spelt_strokes}
 use Rattle.dict_json.specs.Reading.{reading, Member, members_of, Keyed, keyed}
 use Rattle.dict_json.specs.Dictionaries.{DictionaryView, dictionary_of}
 
@@ -18,7 +18,7 @@ pub data Outcome : Type 0 where
 
 -- the key has more than 64 parts, and each of them is readable
 abbrev pub is_too_long : Keyed → Bool
-is_too_long p = nat_lt 64 (length (parts_of p.key)) && is_some (strokes_of p.key)
+is_too_long p = nat_lt 64 (length (parts_of p.key)) && is_some (spelt_strokes p.key)
 
 -- of keys with their texts, by the first key that is too long
 abbrev pub keys_outcome : List Keyed → Option Keyed → Outcome

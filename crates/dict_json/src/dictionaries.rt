@@ -2,7 +2,7 @@
 
 ghost use Rattle.std.specs.Prelude.{◌≡◌, ◌<◌, ◌≤◌, ◌+◌, ◌^◌, length, All};
 ghost use Rattle.steno_rules.specs.Outlines.{AreEntries};
-ghost use Rattle.dict_json.specs.Dictionaries.{IsDictionary, outlines_of};
+ghost use Rattle.dict_json.specs.Dictionaries.{IsDictionary, entry_outlines};
 ghost use Rattle.dict_json.specs.Reading.{AreInOrder};
 
 use crate::texts::Text;
@@ -96,7 +96,7 @@ impl Dictionary {
     /// The entries, in strictly rising order of their outlines.
     pub fn entries(&self) -> &[DictEntry]
         ensures entries { result.now ≡ self.now.entries }
-        ensures are_entries { AreEntries (outlines_of self.now.entries) }
+        ensures are_entries { AreEntries (entry_outlines self.now.entries) }
         ensures are_short { All (λ e. length e.outline ≤ 64) self.now.entries }
         ensures few { length self.now.entries < 2 ^ 32 }
     {
@@ -125,7 +125,7 @@ impl Dictionary {
         ensures entries { result.0.items ≡ self.entries }
         ensures skipped { result.1.items ≡ self.skipped }
         ensures folded { result.2 ≡ self.folded }
-        ensures are_entries { AreEntries (outlines_of self.entries) }
+        ensures are_entries { AreEntries (entry_outlines self.entries) }
         ensures are_short { All (λ e. length e.outline ≤ 64) self.entries }
         ensures skipped_rise { AreInOrder self.skipped }
         ensures few_entries { length self.entries < 2 ^ 32 }

@@ -5,7 +5,7 @@ ghost use Rattle.steno_order.specs.Keys.{slash};
 ghost use Rattle.text_rules.specs.Quoted.{escaped, quoted};
 ghost use Rattle.dict_json.specs.Dictionaries.{DictionaryView, IsWhole};
 ghost use Rattle.dict_json.specs.Outcomes.{dictionary, dictionary_outcome};
-ghost use Rattle.dict_json.specs.Generated.{after_draws, drawn, generated_text, key_text, members_text, stroke_number, stroke_text};
+ghost use Rattle.dict_json.specs.Generated.{after_draws, drawn, generated_text, key_text, members_text, entry_length, stroke_text};
 
 use std::alloc::{AllocError, Global};
 use std::collections::HashSet;
@@ -63,7 +63,7 @@ impl Draws {
     /// The next key: one draw for the number of its strokes, and one for each stroke.
     fn key(&mut self, alloc: Global) -> Result<String, AllocError>
         ensures key { IfOk result (λ key. string_bytes key ≡ key_text (drawn self.old)) }
-        ensures draws { OnOk result (self.new ≡ after_draws (stroke_number (drawn self.old)) (drawn self.old)) }
+        ensures draws { OnOk result (self.new ≡ after_draws (entry_length (drawn self.old)) (drawn self.old)) }
     {
         let strokes = 1 + self.draw() % 3;
         let mut key = String::new(alloc);

@@ -3,7 +3,7 @@
 ghost use Rattle.std.specs.Prelude.{◌≡◌, ◌<◌, ◌≤◌, ◌∷◌, ◌++◌, ◌^◌, [], List, length, string_bytes, IfOk, OnOk, Some};
 ghost use Rattle.std.specs.Option.{option_or};
 ghost use Rattle.dict_json.specs.Reading.{Keyed};
-ghost use Rattle.dict_json.specs.Walks.{walked};
+ghost use Rattle.dict_json.specs.inside.Walks.{walked};
 
 use crate::dictionaries::DictEntry;
 use crate::texts::Text;
@@ -24,7 +24,7 @@ pub(crate) struct Keys {
 }
 
 impl Model for Keys {
-    ghost use Rattle.dict_json.specs.Walks.{KeysView};
+    ghost use Rattle.dict_json.specs.inside.Walks.{KeysView};
 
     ghost Value = { KeysView };
 

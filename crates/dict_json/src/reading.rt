@@ -4,8 +4,8 @@ ghost use Rattle.std.specs.Prelude.{◌≡◌, ◌<◌, ◌^◌, All, None, Some
 ghost use Rattle.serde_json.specs.View.{view, members_view};
 ghost use Rattle.dict_json.specs.Reading.{AreInOrder, keyed, members_of, names_of, reading};
 ghost use Rattle.dict_json.specs.Outcomes.{dictionary, dictionary_outcome, object_outcome, value_outcome};
-ghost use Rattle.dict_json.specs.Faults.{IsCauseOf};
-ghost use Rattle.dict_json.specs.Walks.{walked};
+ghost use Rattle.dict_json.specs.Faults.{IsDictCause};
+ghost use Rattle.dict_json.specs.inside.Walks.{walked};
 
 use crate::dictionaries::Dictionary;
 use crate::faults::DictFault;
@@ -18,7 +18,7 @@ use std::alloc::Global;
 /// The value of a file's bytes.
 fn read_value(alloc: Global, bytes: &[u8]) -> Result<Value, DictFault>
     ensures ok { IfOk result (λ v. reading bytes.now ≡ Some (view v)) }
-    ensures err { IfErr result (IsCauseOf (value_outcome (reading bytes.now))) }
+    ensures err { IfErr result (IsDictCause (value_outcome (reading bytes.now))) }
 {
     match Value::from_slice(alloc, bytes) {
         Ok(value) => Ok(value),
@@ -32,7 +32,7 @@ fn walk(alloc: Global, map: Map<String, Value>) -> Result<Keys, DictFault>
     requires { All (λ m. length m.name < 2 ^ 32) (members_of (members_view map.entries)) }
     ensures texts { IfOk result (λ keys. find (λ m. is_none (keyed m)) (members_of (members_view map.entries)) ≡ None) }
     ensures keys { IfOk result (λ keys. keys ≡ walked (filter_map keyed (members_of (members_view map.entries)))) }
-    ensures err { IfErr result (IsCauseOf (object_outcome (Some (members_view map.entries)))) }
+    ensures err { IfErr result (IsDictCause (object_outcome (Some (members_view map.entries)))) }
 {
     let Ok(mut keys) = Keys::with_capacity(alloc, map.len()) else {
         return Err(DictFault::Memory);
@@ -58,7 +58,7 @@ fn read_object(alloc: Global, map: Map<String, Value>) -> Result<Dictionary, Dic
     requires short { All (λ m. length m.name < 2 ^ 32) (members_of (members_view map.entries)) }
     requires ordered { AreInOrder (names_of (members_view map.entries)) }
     ensures ok { IfOk result (λ d. object_outcome (Some (members_view map.entries)) ≡ dictionary d) }
-    ensures err { IfErr result (IsCauseOf (object_outcome (Some (members_view map.entries)))) }
+    ensures err { IfErr result (IsDictCause (object_outcome (Some (members_view map.entries)))) }
 {
     let Keys {
         mut entries,
@@ -82,7 +82,7 @@ fn read_object(alloc: Global, map: Map<String, Value>) -> Result<Dictionary, Dic
 pub fn read_dictionary(alloc: Global, bytes: &[u8]) -> Result<Dictionary, DictFault>
     requires { length bytes.now < 2 ^ 32 }
     ensures ok { IfOk result (λ d. dictionary_outcome bytes.now ≡ dictionary d) }
-    ensures err { IfErr result (IsCauseOf (dictionary_outcome bytes.now)) }
+    ensures err { IfErr result (IsDictCause (dictionary_outcome bytes.now)) }
 {
     match read_value(alloc, bytes)? {
         Value::Object(map) => read_object(alloc, map),

@@ -4,7 +4,7 @@ use Rattle.std.proofs.lemmas.List.{length-map, length_push, map-append, append-n
 use Rattle.std.proofs.lemmas.List.Elements.{All-append, All-map}
 use Rattle.std.proofs.lemmas.List.Sums.{sum_by_push}
 use Rattle.dict_json.specs.Dictionaries.{DictionaryView}
-use Rattle.dict_stack.specs.Candidates.{candidate, candidates_from, candidate_outline, IsShort, IsCollected}
+use Rattle.dict_stack.specs.inside.Candidates.{candidate, candidates_from, candidate_outline, IsShort, IsCollected}
 use Rattle.dict_stack.specs.declared.candidates.Candidate.{Candidate}
 use Rattle.dict_stack.specs.declared.candidates.Collected.{Collected}
 

@@ -5,7 +5,7 @@ use Rattle.std.specs.List.Sorted.{IsSortedBy}
 use Rattle.std.specs.Cmp.Lexicographic.{pointwise}
 use Rattle.std.proofs.lemmas.List.{length_push, length-take, get_or-take, take_more}
 use Rattle.steno_rules.specs.Outlines.{outline_cmp}
-use Rattle.dict_stack.specs.Candidates.{candidate_outline, AreSorted, is_end}
+use Rattle.dict_stack.specs.inside.Candidates.{candidate_outline, AreSorted, is_end}
 use Rattle.dict_stack.specs.declared.candidates.Candidate.{Candidate}
 use Rattle.dict_stack.proofs.EndLemmas.{is_end_push, is_end-front}
 use Rattle.dict_stack.proofs.ColumnLemmas.{ordered, outlines_push}

@@ -6,7 +6,7 @@ use Rattle.steno_rules.specs.Outlines.{outline_cmp, AreRising}
 use Rattle.steno_rules.specs.Nodes.{by_order, insert_new}
 use Rattle.steno_rules.proofs.Lists.{none_in_nil, in_cons, in_first, in_later}
 use Rattle.steno_rules.proofs.NodeLemmas.{same_of_equal}
-use Rattle.dict_stack.specs.Candidates.{is_end}
+use Rattle.dict_stack.specs.inside.Candidates.{is_end}
 use Rattle.dict_stack.proofs.OrderLemmas.{not_above_self, first_below, rising_tail}
 
 -- no outline is above x

@@ -4,7 +4,7 @@ use Rattle.std.specs.List.{list_any}
 use Rattle.std.specs.Cmp.Lexicographic.{pointwise, bytes_decides}
 use Rattle.std.proofs.lemmas.List.Folds.{list_any-append}
 use Rattle.steno_rules.proofs.Entries.{is_entry-Decides}
-use Rattle.dict_stack.specs.Candidates.{candidate_outline, spells, said_first, some_word}
+use Rattle.dict_stack.specs.inside.Candidates.{candidate_outline, spells, said_first, some_word}
 use Rattle.dict_stack.specs.declared.candidates.Candidate.{Candidate}
 
 module _ {X Y : Type 0} where

@@ -9,7 +9,7 @@ use Rattle.std.proofs.lemmas.List.Sorted.{IsPermutation-map, IsPermutation-sym, 
 use Rattle.steno_rules.specs.Outlines.{outline_cmp}
 use Rattle.steno_rules.proofs.Rising.{rising_same}
 use Rattle.dict_json.specs.Dictionaries.{in_order}
-use Rattle.dict_stack.specs.Candidates.{candidate, candidate_outline, spells, said_first, some_word, IsMerged}
+use Rattle.dict_stack.specs.inside.Candidates.{candidate, candidate_outline, spells, said_first, some_word, IsMerged}
 use Rattle.dict_stack.specs.declared.candidates.Candidate.{Candidate}
 use Rattle.dict_stack.specs.declared.columns.Columns.{Columns}
 use Rattle.dict_json.proofs.InOrder.{in_order-rising, in_order-Contains}

@@ -6,17 +6,17 @@ use Rattle.std.proofs.Math.Seq.{drop-cons}
 use Rattle.std.proofs.lemmas.List.{map-append}
 use Rattle.std.proofs.lemmas.List.Folds.{list_any-append, find-append}
 use Rattle.std.proofs.lemmas.Iterator.Adapters.{position_from-zero}
-use Rattle.dict_json.specs.Dictionaries.{Entry, DictionaryView, outlines_of, has_outline}
-use Rattle.dict_stack.specs.Stacks.{dictionary_has, first_text, first_place, is_word}
-use Rattle.dict_stack.specs.Candidates.{candidate, candidates_from, candidate_outline, spells, said_first, some_word}
+use Rattle.dict_json.specs.Dictionaries.{Entry, DictionaryView, entry_outlines, has_outline}
+use Rattle.dict_stack.specs.Stacks.{dictionary_has, first_text, first_place, is_supplied}
+use Rattle.dict_stack.specs.inside.Candidates.{candidate, candidates_from, candidate_outline, spells, said_first, some_word}
 
 -- candidates of one dictionary have its entries' outlines
-entries_outlines : (place : ℕ) (w : Bool) (entries : List Entry) → map candidate_outline (map (candidate place w) entries) ≡ outlines_of entries
+entries_outlines : (place : ℕ) (w : Bool) (entries : List Entry) → map candidate_outline (map (candidate place w) entries) ≡ entry_outlines entries
 entries_outlines place w [] = refl
 entries_outlines place w (e ∷ entries) = ap (λ l. e.outline ∷ l) (entries_outlines place w entries)
 
 -- The outlines of the candidates are those of the dictionaries.
-pub candidates_outlines : (place : ℕ) (ds : List DictionaryView) (kinds : List Bool) → map candidate_outline (candidates_from place ds kinds) ≡ flat_map (λ d. outlines_of d.entries) ds
+pub candidates_outlines : (place : ℕ) (ds : List DictionaryView) (kinds : List Bool) → map candidate_outline (candidates_from place ds kinds) ≡ flat_map (λ d. entry_outlines d.entries) ds
 candidates_outlines place [] kinds = refl
 candidates_outlines place (d ∷ ds) kinds =
     map-append candidate_outline (map (candidate place (get_or kinds place false)) d.entries) (candidates_from (suc place) ds kinds)
@@ -97,13 +97,13 @@ any_flag place false x (e ∷ entries) = any_flag place false x entries
 
 -- from any place on, some candidate is a word where some dictionary makes it one
 words_found : (place : ℕ) (ds : List DictionaryView) (kinds : List Bool) (x : List ℕ) → place + length ds ≤ length kinds →
-    some_word (candidates_from place ds kinds) x ≡ is_word ds (drop place kinds) x
+    some_word (candidates_from place ds kinds) x ≡ is_supplied ds (drop place kinds) x
 words_found place [] kinds x within = refl
 words_found place (d ∷ ds) kinds x within =
     list_any-append (λ c. c.is_word && spells x c) (map (candidate place (get_or kinds place false)) d.entries) (candidates_from (suc place) ds kinds)
     ∙ ap₂ (λ a b. a || b) (any_flag place (get_or kinds place false) x d.entries) (words_found (suc place) ds kinds x (omega (arith, within)))
-    ∙ ap (λ l. is_word (d ∷ ds) l x) (sym (drop-cons kinds place false (omega (arith, within))))
+    ∙ ap (λ l. is_supplied (d ∷ ds) l x) (sym (drop-cons kinds place false (omega (arith, within))))
 
 -- Some candidate with an outline is a word where the outline is one.
-pub some_words : (ds : List DictionaryView) (kinds : List Bool) (x : List ℕ) → length kinds ≡ length ds → some_word (candidates_from 0 ds kinds) x ≡ is_word ds kinds x
+pub some_words : (ds : List DictionaryView) (kinds : List Bool) (x : List ℕ) → length kinds ≡ length ds → some_word (candidates_from 0 ds kinds) x ≡ is_supplied ds kinds x
 some_words ds kinds x long = words_found 0 ds kinds x (omega (arith, long))

@@ -5,9 +5,9 @@ use Rattle.std.proofs.lemmas.List.Elements.{All-contains, All-map}
 use Rattle.std.proofs.lemmas.List.Quantifiers.{position-Some}
 use Rattle.steno_rules.specs.Outlines.{AreRising}
 use Rattle.steno_rules.proofs.Lists.{none_in_nil, in_map, all_of}
-use Rattle.dict_json.specs.Dictionaries.{DictionaryView, outlines_of, in_order}
-use Rattle.dict_stack.specs.Stacks.{StackView, IsStack, stack_of, all_outlines, first_text, first_place, is_word, dictionary_has, most_entries, most_dictionaries}
-use Rattle.dict_stack.specs.Candidates.{candidates_from, candidate_outline, said_first, some_word, IsShort, IsCollected, IsMerged}
+use Rattle.dict_json.specs.Dictionaries.{DictionaryView, entry_outlines, in_order}
+use Rattle.dict_stack.specs.Stacks.{StackView, IsStack, stack_of, all_outlines, first_text, first_place, is_supplied, dictionary_has, most_entries, most_dictionaries}
+use Rattle.dict_stack.specs.inside.Candidates.{candidates_from, candidate_outline, said_first, some_word, IsShort, IsCollected, IsMerged}
 use Rattle.dict_stack.specs.declared.candidates.Collected.{Collected}
 use Rattle.dict_stack.specs.declared.columns.Columns.{Columns}
 use Rattle.dict_json.proofs.InOrder.{in_order-rising, in_order-Contains}
@@ -46,11 +46,11 @@ module _ (ds : List DictionaryView) (kinds : List Bool) (c : Collected) (columns
       ∙ ap₂ (λ l o. map (said_first (λ e. e.place) 0 l) o) collected.candidates_are outlines
       ∙ map_same (said_first (λ e. e.place) 0 (candidates_from 0 ds kinds)) (first_place ds) (all_outlines ds) (λ x has. said_place ds kinds x)
 
-  words : columns.words.items ≡ map (is_word ds kinds) (all_outlines ds)
+  words : columns.words.items ≡ map (is_supplied ds kinds) (all_outlines ds)
   words =
       merged.words_are
       ∙ ap₂ (λ l o. map (some_word l) o) collected.candidates_are outlines
-      ∙ map_same (some_word (candidates_from 0 ds kinds)) (is_word ds kinds) (all_outlines ds) (λ x has. some_words ds kinds x long)
+      ∙ map_same (some_word (candidates_from 0 ds kinds)) (is_supplied ds kinds) (all_outlines ds) (λ x has. some_words ds kinds x long)
 
   -- The parts make the stack.
   pub view_is : view_of c columns ≡ stack_of ds kinds
@@ -63,7 +63,7 @@ module _ (ds : List DictionaryView) (kinds : List Bool) (c : Collected) (columns
       subst IsShort found.2 (All-contains (λ e. IsShort (candidate_outline e)) c.candidates.items found.0 collected.are_short found.1)
 
   -- there is an outline only where there is a dictionary
-  some : (x : List ℕ) (dictionaries : List DictionaryView) → Contains (flat_map (λ d. outlines_of d.entries) dictionaries) x → 0 < length dictionaries
+  some : (x : List ℕ) (dictionaries : List DictionaryView) → Contains (flat_map (λ d. entry_outlines d.entries) dictionaries) x → 0 < length dictionaries
   some x [] has = absurd (none_in_nil x has)
   some x (d ∷ dictionaries) has = omega arith
 
@@ -72,7 +72,7 @@ module _ (ds : List DictionaryView) (kinds : List Bool) (c : Collected) (columns
   place_within x has = by (position (dictionary_has x) ds) refl
     where
       by : (o : Option ℕ) → position (dictionary_has x) ds ≡ o → unwrap_or o 0 < length ds
-      by None is = some x ds ((in_order-Contains (flat_map (λ d. outlines_of d.entries) ds) x).0 has)
+      by None is = some x ds ((in_order-Contains (flat_map (λ d. entry_outlines d.entries) ds) x).0 has)
       by (Some i) is = (position-Some (dictionary_has x) ds i (record { entries = []; skipped = []; folded = 0 }) is).0
 
   -- The number of all skipped keys.

@@ -1,4 +1,4 @@
 pub mod Stacks
 pub mod Appearances
 pub mod Faults
-pub mod Candidates
+pub mod inside

@@ -4,7 +4,7 @@
 use Rattle.std.specs.Prelude.{ℕ, ◌≡◌, ◌+◌, ◌<◌, ◌≤◌, ◌^◌, List, [], Bool, ◌&&◌, All, map, flat_map, find, zip, length, sum_by, unwrap_or, option_map, option_and_then, position}
 use Rattle.std.specs.List.{list_any}
 use Rattle.steno_rules.specs.Outlines.{AreEntries}
-use Rattle.dict_json.specs.Dictionaries.{DictionaryView, outlines_of, in_order, has_outline}
+use Rattle.dict_json.specs.Dictionaries.{DictionaryView, entry_outlines, in_order, has_outline}
 
 -- the entries by number, with their translations, the places of the dictionaries that these are from, and which entries are words;
 -- and of each dictionary the skipped keys, and of all the number of folded keys
@@ -22,7 +22,7 @@ dictionary_has outline dictionary = list_any (has_outline outline) dictionary.en
 
 -- all outlines that some dictionary has, in their order, each once
 abbrev pub all_outlines : List DictionaryView → List (List ℕ)
-all_outlines dictionaries = in_order (flat_map (λ d. outlines_of d.entries) dictionaries)
+all_outlines dictionaries = in_order (flat_map (λ d. entry_outlines d.entries) dictionaries)
 
 -- the text of an outline in the first dictionary that has it
 abbrev pub first_text : List DictionaryView → List ℕ → List ℕ
@@ -33,8 +33,8 @@ abbrev pub first_place : List DictionaryView → List ℕ → ℕ
 first_place dictionaries outline = unwrap_or (position (dictionary_has outline) dictionaries) 0
 
 -- some dictionary has the outline whose kind says that its outlines are words
-abbrev pub is_word : List DictionaryView → List Bool → List ℕ → Bool
-is_word dictionaries kinds outline = list_any (λ d. d.1 && dictionary_has outline d.0) (zip dictionaries kinds)
+abbrev pub is_supplied : List DictionaryView → List Bool → List ℕ → Bool
+is_supplied dictionaries kinds outline = list_any (λ d. d.1 && dictionary_has outline d.0) (zip dictionaries kinds)
 
 -- the kinds say of each dictionary whether its outlines are words
 abbrev pub stack_of : List DictionaryView → List Bool → StackView
@@ -42,7 +42,7 @@ stack_of dictionaries kinds = record {
   outlines = all_outlines dictionaries;
   texts = map (first_text dictionaries) (all_outlines dictionaries);
   from = map (first_place dictionaries) (all_outlines dictionaries);
-  words = map (is_word dictionaries kinds) (all_outlines dictionaries);
+  words = map (is_supplied dictionaries kinds) (all_outlines dictionaries);
   skipped = map (λ d. d.skipped) dictionaries;
   folded = sum_by (λ d. d.folded) dictionaries;
 }

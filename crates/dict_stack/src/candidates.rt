@@ -1,7 +1,7 @@
 //! The entries of all dictionaries in one list, dictionary by dictionary.
 
 ghost use Rattle.std.specs.Prelude.{◌≡◌, ◌<◌, ◌≤◌, ◌+◌, ◌*◌, ◌++◌, ◌^◌, ◌∷◌, [], All, map, length, OnOk, IfOk};
-ghost use Rattle.dict_stack.specs.Candidates.{candidate, IsCollected, IsShort};
+ghost use Rattle.dict_stack.specs.inside.Candidates.{candidate, IsCollected, IsShort};
 
 use dict_json::{DictEntry, Dictionary, Text};
 use std::alloc::{AllocError, Global};

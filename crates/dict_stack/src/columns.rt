@@ -4,9 +4,9 @@ ghost use Rattle.std.specs.Prelude.{◌≡◌, ◌≤◌, [], map, length, OnOk,
 ghost use Rattle.std.specs.List.Sorted.{IsPermutation, IsStableByKey};
 ghost use Rattle.steno_rules.specs.Outlines.{outline_cmp};
 ghost use Rattle.dict_json.specs.Dictionaries.{in_order};
-ghost use Rattle.dict_stack.specs.Candidates.{candidate_outline, AreSorted, IsMerged, Adds, is_end};
+ghost use Rattle.dict_stack.specs.inside.Candidates.{candidate_outline, AreSorted, IsMerged, Adds, is_end};
 ghost use Rattle.dict_stack.specs.Stacks.{most_entries};
-ghost use Rattle.dict_stack.specs.Faults.{IsCauseOf};
+ghost use Rattle.dict_stack.specs.Faults.{IsStackCause};
 
 use crate::candidates::Candidate;
 use crate::faults::StackFault;
@@ -117,7 +117,7 @@ fn standing(alloc: Global, candidates: Vec<Candidate>, count: usize) -> Result<C
 pub fn merge(alloc: Global, mut candidates: Vec<Candidate>) -> Result<Columns, StackFault>
     ensures merged { IfOk result (IsMerged candidates.items) }
     ensures few { IfOk result (λ _. length (in_order (map candidate_outline candidates.items)) ≤ most_entries) }
-    ensures err { IfErr result (IsCauseOf (in_order (map candidate_outline candidates.items))) }
+    ensures err { IfErr result (IsStackCause (in_order (map candidate_outline candidates.items))) }
 {
     sort(&mut candidates)?;
     let count = live_count(&candidates);

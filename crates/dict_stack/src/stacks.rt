@@ -1,10 +1,10 @@
 //! The stack of dictionaries, the first of which has the highest priority.
 
 ghost use Rattle.std.specs.Prelude.{◌≡◌, ◌<◌, ◌≤◌, ◌+◌, ◌^◌, [], All, length, sum_by, slice_index, slice_index_or, IfOk, IfErr};
-ghost use Rattle.steno_rules.specs.Outlines.{AreEntries, AreWords, number_of, outline_of, words_of};
+ghost use Rattle.steno_rules.specs.Outlines.{AreEntries, AreWords, entry_number, outline_of, flagged_entries};
 ghost use Rattle.dict_stack.specs.Stacks.{stack_of, all_outlines, most_entries, most_dictionaries};
 ghost use Rattle.dict_stack.specs.Appearances.{strokes_of_all, stroke_number_of};
-ghost use Rattle.dict_stack.specs.Faults.{IsCauseOf};
+ghost use Rattle.dict_stack.specs.Faults.{IsStackCause};
 
 use crate::candidates::{Collected, collect};
 use crate::columns::{Columns, merge};
@@ -60,7 +60,7 @@ impl Stack {
         requires kinds { length word_files.items ≡ length dictionaries.items }
         ensures stack { IfOk result (λ stack. stack ≡ stack_of dictionaries.items word_files.items) }
         ensures few_entries { IfOk result (λ _. length (all_outlines dictionaries.items) ≤ most_entries) }
-        ensures err { IfErr result (IsCauseOf (all_outlines dictionaries.items)) }
+        ensures err { IfErr result (IsStackCause (all_outlines dictionaries.items)) }
     {
         let Collected {
             candidates,
@@ -132,7 +132,7 @@ impl Stack {
 
     /// The number of the entry with these strokes, in a binary search.
     pub fn find(&self, strokes: &[Stroke]) -> Option<u32>
-        ensures { result ≡ number_of self.now.outlines strokes.now }
+        ensures { result ≡ entry_number self.now.outlines strokes.now }
     {
         match self
             .outlines
@@ -147,7 +147,7 @@ impl Stack {
     pub fn words(&self) -> &[bool]
         ensures words { result.now ≡ self.now.words }
         ensures each { length self.now.words ≡ length self.now.outlines }
-        ensures are_words { AreWords self.now.outlines (words_of self.now.outlines self.now.words) }
+        ensures are_words { AreWords self.now.outlines (flagged_entries self.now.outlines self.now.words) }
     {
         self.words.as_slice()
     }

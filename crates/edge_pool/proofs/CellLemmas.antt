@@ -2,7 +2,7 @@
 use Rattle.std.proofs.Common.{◌≡◌, ℕ, ◌+◌, ◌-◌, ◌<◌, ◌≤◌, List, ◌++◌, length, get_or, take, drop, set, replicate, sym, ◌∙◌, arith, inl, inr, length-set, length-drop, length-append, get_or-set_same, get_or-set_other}
 use Rattle.std.proofs.lemmas.Bool.{cases_eq, cases_lt}
 use Rattle.std.proofs.lemmas.List.{length-take-le, length-replicate, get_or-take, get_or-drop, get_or-replicate, ext_get_or, get_or_append_left, get_or-append_right}
-use Rattle.edge_pool.specs.Runs.{IsCleared}
+use Rattle.edge_pool.specs.inside.Runs.{IsCleared}
 
 abbrev pub run : List (ℕ × ℕ) → ℕ → ℕ → List (ℕ × ℕ)
 run cells place len = take len (drop place cells)

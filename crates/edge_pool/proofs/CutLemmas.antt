@@ -5,7 +5,7 @@ use Rattle.std.specs.Cmp.{nat_cmp_total}
 use Rattle.std.specs.FinMap as map
 use Rattle.std.proofs.lemmas.Bool.{cases_lt}
 use Rattle.edge_pool.specs.Classes.{size_of}
-use Rattle.edge_pool.specs.Cuts.{block_at, contents, next_free, Avoids, IsChain, IsBlock, AreSound}
+use Rattle.edge_pool.specs.inside.Cuts.{block_at, contents, next_free, Avoids, IsChain, IsBlock, AreSound}
 use Rattle.edge_pool.specs.declared.cut.Cut.{Cut}
 use Rattle.edge_pool.proofs.ClassLemmas.{size_pos}
 use Rattle.edge_pool.proofs.MapLemmas.{same_test, same_number, other_number, told_same}

@@ -3,9 +3,9 @@ use Rattle.std.proofs.Common.{◌≡◌, ℕ, ◌+◌, ◌-◌, ◌<◌, ◌≤�
 use Rattle.std.specs.Ordering.{nat_cmp}
 use Rattle.std.specs.FinMap as map
 use Rattle.edge_pool.specs.Classes.{class_of, size_of, IsLen}
-use Rattle.edge_pool.specs.Runs.{IsCleared}
+use Rattle.edge_pool.specs.inside.Runs.{IsCleared}
 use Rattle.edge_pool.specs.Pools.{Extent, Pool, Lists, pairs_of, written, given, zeros, lengthened}
-use Rattle.edge_pool.specs.Cuts.{block_at, contents, AreSound}
+use Rattle.edge_pool.specs.inside.Cuts.{block_at, contents, AreSound}
 use Rattle.edge_pool.specs.declared.cut.Cut.{Cut}
 use Rattle.edge_pool.proofs.ClassLemmas.{size_pos, class_known}
 use Rattle.edge_pool.proofs.MapLemmas.{insert_removed}

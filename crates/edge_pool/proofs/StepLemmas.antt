@@ -6,9 +6,9 @@ use Rattle.std.proofs.lemmas.Bool.{cases_eq}
 use Rattle.std.proofs.lemmas.List.Sums.{sum_by-set}
 use Rattle.std.proofs.lemmas.List.{get_or-replicate}
 use Rattle.edge_pool.specs.Classes.{class_of, size_of}
-use Rattle.edge_pool.specs.Runs.{IsCleared}
+use Rattle.edge_pool.specs.inside.Runs.{IsCleared}
 use Rattle.edge_pool.specs.Pools.{AreApart}
-use Rattle.edge_pool.specs.Cuts.{block_at, contents, next_free, Avoids, IsChain, IsBlock, AreSound}
+use Rattle.edge_pool.specs.inside.Cuts.{block_at, contents, next_free, Avoids, IsChain, IsBlock, AreSound}
 use Rattle.edge_pool.specs.declared.cut.Cut.{Cut}
 use Rattle.edge_pool.proofs.ClassLemmas.{size_pos, size_bound}
 use Rattle.edge_pool.proofs.MapLemmas.{other_number, is_inserted, is_removed, maps_same, len-inserted-le, len-replaced, len-removed}

@@ -1,4 +1,3 @@
 pub mod Classes
 pub mod Pools
-pub mod Cuts
-pub mod Runs
+pub mod inside

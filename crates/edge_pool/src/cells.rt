@@ -1,6 +1,6 @@
 //! What is done to a run of cells.
 ghost use Rattle.std.specs.Prelude.{◌≡◌, ◌+◌, ◌≤◌, length};
-ghost use Rattle.edge_pool.specs.Runs.{IsCleared};
+ghost use Rattle.edge_pool.specs.inside.Runs.{IsCleared};
 
 /// Sets the cells from `from` up to `to` to (0, 0).
 pub(crate) fn clear(cells: &mut [(u32, u32)], from: usize, to: usize)

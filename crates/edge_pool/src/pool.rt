@@ -36,7 +36,7 @@ pub struct EdgePool {
 impl Model for EdgePool {
     ghost use Rattle.std.specs.Prelude.{◌-◌, length};
     ghost use Rattle.edge_pool.specs.Pools.{Pool, pool_code};
-    ghost use Rattle.edge_pool.specs.Cuts.{contents, AreSound};
+    ghost use Rattle.edge_pool.specs.inside.Cuts.{contents, AreSound};
 
     ghost Value = { Pool };
 

@@ -1,7 +1,7 @@
 -- Words that stand, where each move was relaxed with a least distance, are the settled ones, whatever the order of the moves.
 use Rattle.std.proofs.Common.{◌≡◌, ◌≢◌, ℕ, zero, suc, ◌+◌, ◌*◌, ◌≤◌, ◌<◌, List, length, get_or, ap, subst, ◌∙◌, arith, inl, inr}
 use Rattle.std.proofs.lemmas.Bool.{cases_lt}
-use Rattle.graph_rules.specs.Graphs.{HasTarget, Reaches, IsBest, IsSource, IsSettled, AreSettled, Stands, moved, unreached}
+use Rattle.graph_rules.specs.Graphs.{HasTarget, Reaches, IsBest, IsSource, IsSettledWord, AreSettled, Stands, moved, unreached}
 use Rattle.graph_rules.specs.Relaxed.{AreRelaxed}
 use Rattle.graph_rules.proofs.Distances.{source_below, best_below}
 
@@ -57,7 +57,7 @@ module _ (o : ℕ) (ls : List (List ℕ)) (words : List ℕ) (few : length ls < 
   best_of : (s : ℕ) → s < length ls → (v : Level o ls s (get_or words s 0)) → IsBest o ls s v.n
   best_of s below v = level_best s v (λ m lt walk. levels m m (omega arith) s below walk)
 
-  settled_word : (s : ℕ) → s < length ls → Stands o ls s (get_or words s 0) → IsSettled o ls s (get_or words s 0)
+  settled_word : (s : ℕ) → s < length ls → Stands o ls s (get_or words s 0) → IsSettledWord o ls s (get_or words s 0)
   settled_word s below (inl is) = inr (inr ((λ n walk. none n walk), is))
     where
       none : (n : ℕ) → Reaches o ls n s → ⊥
@@ -93,7 +93,7 @@ relaxed_settled o ls words few h = record {
 
 -- ---- settled words stand
 
-pub settled_stands : (o : ℕ) (ls : List (List ℕ)) (s w : ℕ) → length ls ≤ 4294967296 → IsSettled o ls s w → Stands o ls s w
+pub settled_stands : (o : ℕ) (ls : List (List ℕ)) (s w : ℕ) → length ls ≤ 4294967296 → IsSettledWord o ls s w → Stands o ls s w
 settled_stands o ls s w few (inl h) = inr (inl (h.1, h.0))
 settled_stands o ls s w few (inr (inl h)) =
     let below = source_below ls h.1.1 s h.1.3.target in

@@ -3,7 +3,7 @@ ghost use Rattle.std.specs.Prelude.{◌≡◌, ◌↔◌, ◌++◌, ◌∷◌, �
 ghost use Rattle.steno_rules.specs.Segments.{last_piece as last_piece_of};
 ghost use Rattle.steno_rules.specs.Windows.{window};
 ghost use Rattle.longest_match.specs.Pieces.{piece_of};
-ghost use Rattle.outline_trie.specs.Tries.{IsNode, strokes_of};
+ghost use Rattle.outline_trie.specs.Tries.{IsNode, node_strokes};
 ghost use Rattle.match_window.specs.Ends.{StartsPiece, shorter_end as shorter_end_of};
 
 use crate::columns::{Columns, columns_of};
@@ -32,7 +32,7 @@ pub struct Windows<'a> {
 
 impl<'a> Model for Windows<'a> {
     ghost use Rattle.std.specs.Prelude.{ℕ, List};
-    ghost use Rattle.match_window.specs.Rows.{AreColumns};
+    ghost use Rattle.match_window.specs.inside.Rows.{AreColumns};
 
     ghost Value = { List (List ℕ) };
 
@@ -55,7 +55,7 @@ impl Windows<'_> {
     /// The starts of a node's pieces: bit i is set exactly where a piece starts after i strokes. Linear in its strokes.
     pub fn cuts(&self, node: u32) -> u64
         requires { IsNode self.now node }
-        ensures { (i : ℕ) → IsBitSet result i ↔ StartsPiece self.now (strokes_of self.now node) i }
+        ensures { (i : ℕ) → IsBitSet result i ↔ StartsPiece self.now (node_strokes self.now node) i }
     {
         let mut cuts = 0;
         let mut end = node;
@@ -69,7 +69,7 @@ impl Windows<'_> {
     /// The last piece of a node's strokes, None for the root alone.
     pub fn last_piece(&self, node: u32) -> Option<Piece>
         requires { IsNode self.now node }
-        ensures { result ≡ option_map (piece_of self.now) (last_piece_of self.now (strokes_of self.now node)) }
+        ensures { result ≡ option_map (piece_of self.now) (last_piece_of self.now (node_strokes self.now node)) }
     {
         if node == 0 {
             None
@@ -83,8 +83,8 @@ impl Windows<'_> {
     pub fn advance(&self, node: u32, stroke: Stroke) -> Advance
         requires { IsNode self.now node }
         ensures node { IsNode self.now result.node }
-        ensures window { strokes_of self.now result.node ≡ window self.now (strokes_of self.now node ++ stroke ∷ []) }
-        ensures last { Some result.last ≡ option_map (piece_of self.now) (last_piece_of self.now (strokes_of self.now node ++ stroke ∷ [])) }
+        ensures window { node_strokes self.now result.node ≡ window self.now (node_strokes self.now node ++ stroke ∷ []) }
+        ensures last { Some result.last ≡ option_map (piece_of self.now) (last_piece_of self.now (node_strokes self.now node ++ stroke ∷ [])) }
     {
         let next = self.columns.next(self.trie, node, stroke);
         Advance {
@@ -98,7 +98,7 @@ impl Windows<'_> {
     pub fn shorter_end(&self, node: u32) -> u32
         requires { IsNode self.now node }
         ensures node { IsNode self.now result }
-        ensures end { strokes_of self.now result ≡ shorter_end_of self.now (strokes_of self.now node) }
+        ensures end { node_strokes self.now result ≡ shorter_end_of self.now (node_strokes self.now node) }
     {
         self.columns.shorter[node as usize]
     }
@@ -110,7 +110,7 @@ impl Windows<'_> {
         node: u32,
     ) -> Result<SmallVec<Stroke, 8, Global>, AllocError>
         requires { IsNode self.now node }
-        ensures { IfOk result (λ strokes. strokes.items ≡ strokes_of self.now node) }
+        ensures { IfOk result (λ strokes. strokes.items ≡ node_strokes self.now node) }
     {
         let depth = self.trie.depth(node) as usize;
         let mut strokes = [Stroke::default(); 64];
@@ -130,7 +130,7 @@ impl Windows<'_> {
 fn above(trie: &Trie, node: u32, levels: u32) -> u32
     requires { IsNode trie.now node }
     ensures node { IsNode trie.now result }
-    ensures strokes { strokes_of trie.now result ≡ take (length (strokes_of trie.now node) - levels) (strokes_of trie.now node) }
+    ensures strokes { node_strokes trie.now result ≡ take (length (node_strokes trie.now node) - levels) (node_strokes trie.now node) }
 {
     let mut end = node;
     for _ in 0..levels {

@@ -6,7 +6,7 @@ use Rattle.steno_rules.specs.Nodes.{nodes}
 use Rattle.steno_rules.proofs.Lists.{in_cons}
 use Rattle.steno_rules.proofs.Prefixes.{is_prefix-found}
 use Rattle.steno_rules.proofs.NodeLemmas.{nodes-Contains}
-use Rattle.outline_trie.specs.Tries.{IsNode, strokes_of, longest_of}
+use Rattle.outline_trie.specs.Tries.{IsNode, node_strokes, longest_of}
 
 -- the greatest of a and some lengths is at least a
 from_start : (entries : List (List ℕ)) (a : ℕ) → a ≤ fold max a (map length entries)
@@ -29,6 +29,6 @@ prefix_short entries x begins = elim (is_prefix-found entries x begins) [
 ]
 
 -- So has a node.
-pub node_short : (entries : List (List ℕ)) (node : ℕ) → IsNode entries node → length (strokes_of entries node) ≤ longest_of entries
+pub node_short : (entries : List (List ℕ)) (node : ℕ) → IsNode entries node → length (node_strokes entries node) ≤ longest_of entries
 node_short entries node inside =
-    prefix_short entries (strokes_of entries node) ((nodes-Contains entries (strokes_of entries node)).0 (node, inside, get_or_default (nodes entries) node (strokes_of entries node) [] inside))
+    prefix_short entries (node_strokes entries node) ((nodes-Contains entries (node_strokes entries node)).0 (node, inside, get_or_default (nodes entries) node (node_strokes entries node) [] inside))

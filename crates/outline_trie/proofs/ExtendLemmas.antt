@@ -4,13 +4,13 @@ use Rattle.std.proofs.lemmas.Bool.{cases_eq}
 use Rattle.std.proofs.lemmas.List.Sums.{common_prefix_len-le}
 use Rattle.outline_trie.proofs.OrderLemmas.{shared_same}
 use Rattle.std.proofs.lemmas.List.{length_push, take_more, length-take-le, get_or-take, get_or_default}
-use Rattle.outline_trie.specs.Tables.{shared, outline_before, IsTable, IsNumbered, none_number, up}
-use Rattle.steno_rules.specs.Outlines.{AreRising, AreEntries, outline_of, number_of}
+use Rattle.outline_trie.specs.inside.Tables.{shared, outline_before, IsTable, IsNumbered, none_number, ancestor}
+use Rattle.steno_rules.specs.Outlines.{AreRising, AreEntries, outline_of, entry_number}
 use Rattle.steno_rules.specs.Nodes.{nodes}
 use Rattle.steno_rules.proofs.NodeLemmas.{nodes-rising, nodes-first}
 use Rattle.outline_trie.proofs.GrowLemmas.{grown, not_begun, one_stroke_more, shared_nodes, all_grown}
 use Rattle.outline_trie.proofs.LengthLemmas.{length_grown_at, length_more, length_rises, last_node}
-use Rattle.outline_trie.proofs.TableLemmas.{IsAbove, table_more, numbered_more, numbered_set, number_of-None, rising_take, new_outline, up_is}
+use Rattle.outline_trie.proofs.TableLemmas.{IsAbove, table_more, numbered_more, numbered_set, entry_number-None, rising_take, new_outline, up_is}
 
 -- the columns of the nodes X, of which one is the first strokes of an outline
 pub record IsExtending (before X : List (List ℕ)) (e : List ℕ) (count : ℕ) (parents strokes depths numbers : List ℕ) (node : ℕ) : Type 0 where
@@ -27,8 +27,8 @@ module _ (entries : List (List ℕ)) (k : ℕ) (are : AreEntries entries) (insid
   begun = shared (outline_before entries k) e
 
   -- a stroke more than the shared ones is no earlier entry
-  new_number : (j : ℕ) → begun ≤ j → j < length e → number_of (take k entries) (take (suc j) e) ≡ None
-  new_number j from to = number_of-None (take k entries) (take (suc j) e) (λ n within is.
+  new_number : (j : ℕ) → begun ≤ j → j < length e → entry_number (take k entries) (take (suc j) e) ≡ None
+  new_number j from to = entry_number-None (take k entries) (take (suc j) e) (λ n within is.
       let below : n < k = omega (arith, length-take k entries) in
       not_begun entries k j (take (suc j) e) are.rising inside from to
       (record { i = n; below = below; is = sym is ∙ get_or-take k entries n [] below })
@@ -76,19 +76,19 @@ module _ (entries : List (List ℕ)) (k : ℕ) (are : AreEntries entries) (insid
 
   -- the node above which the new ones hang
   pub top_is : (parents strokes depths : List ℕ) → IsTable (nodes (take k entries)) parents strokes depths →
-      IsAbove (nodes (take k entries)) (length (nodes (take k entries)) - 1) (length (outline_before entries k) - begun) (up parents (length parents - 1) (length (outline_before entries k) - begun))
+      IsAbove (nodes (take k entries)) (length (nodes (take k entries)) - 1) (length (outline_before entries k) - begun) (ancestor parents (length parents - 1) (length (outline_before entries k) - begun))
   top_is parents strokes depths t =
-      subst (λ n. IsAbove (nodes (take k entries)) (length (nodes (take k entries)) - 1) (length (outline_before entries k) - begun) (up parents (n - 1) (length (outline_before entries k) - begun))) (sym t.parents_long)
+      subst (λ n. IsAbove (nodes (take k entries)) (length (nodes (take k entries)) - 1) (length (outline_before entries k) - begun) (ancestor parents (n - 1) (length (outline_before entries k) - begun))) (sym t.parents_long)
       (up_is (nodes (take k entries)) parents strokes depths (length (outline_before entries k) - begun) (length (nodes (take k entries)) - 1) t
       (ap (λ ys. outline_of ys 0) (nodes-first (take k entries)).1) (omega (arith, ap length (nodes-first (take k entries)).1))
       (omega (arith, ap length (last_node entries k are (omega arith)))))
 
   -- what the climb found
-  pub top_at : (parents strokes depths ps : List ℕ) (levels at : ℕ) → IsTable (nodes (take k entries)) parents strokes depths → ps ≡ parents → levels ≡ length (outline_before entries k) - begun → at ≡ up ps (length ps - 1) levels →
+  pub top_at : (parents strokes depths ps : List ℕ) (levels at : ℕ) → IsTable (nodes (take k entries)) parents strokes depths → ps ≡ parents → levels ≡ length (outline_before entries k) - begun → at ≡ ancestor ps (length ps - 1) levels →
       (at < length (nodes (take k entries))) × (outline_of (nodes (take k entries)) at ≡ take begun e)
   top_at parents strokes depths ps levels at t same count found =
       let above = top_is parents strokes depths t in
-      let is : at ≡ up parents (length parents - 1) (length (outline_before entries k) - begun) = found ∙ ap (λ xs. up xs (length xs - 1) levels) same ∙ ap (up parents (length parents - 1)) count in
+      let is : at ≡ ancestor parents (length parents - 1) (length (outline_before entries k) - begun) = found ∙ ap (λ xs. ancestor xs (length xs - 1) levels) same ∙ ap (ancestor parents (length parents - 1)) count in
       let last = last_node entries k are (omega arith) in
       let both = common_prefix_len-le nat_eq (outline_before entries k) e in (
         rw is above.inside,

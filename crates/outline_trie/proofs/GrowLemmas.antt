@@ -3,7 +3,7 @@ use Rattle.std.proofs.Common.{◌≡◌, ℕ, zero, suc, ◌+◌, ◌<◌, ◌�
 use Rattle.std.proofs.lemmas.Bool.{cases_lt, cases_eq}
 use Rattle.std.proofs.lemmas.List.{take-append-drop, length-take-le, take_more, get_or-take, get_or_default}
 use Rattle.std.proofs.lemmas.List.Elements.{Contains-append_cases, Contains-append_left, Contains-append_right}
-use Rattle.outline_trie.specs.Tables.{shared, outline_before}
+use Rattle.outline_trie.specs.inside.Tables.{shared, outline_before}
 use Rattle.steno_rules.specs.Outlines.{outline_cmp, AreRising, outline_of}
 use Rattle.steno_rules.specs.Windows.{is_prefix}
 use Rattle.steno_rules.specs.Nodes.{nodes}

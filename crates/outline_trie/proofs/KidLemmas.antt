@@ -5,12 +5,12 @@ use Rattle.std.proofs.lemmas.Bool.{cases_eq}
 use Rattle.std.proofs.lemmas.Bool.Decides.{nat_tests}
 use Rattle.std.proofs.lemmas.List.{get_or_default, length_push, same_from_push, append-nil}
 use Rattle.std.proofs.lemmas.List.Elements.{Contains-append_cases, Contains-append_left, Contains-append_right}
-use Rattle.outline_trie.specs.Tables.{IsTable}
-use Rattle.outline_trie.specs.Kids.{is_child, kids}
+use Rattle.outline_trie.specs.inside.Tables.{IsTable}
+use Rattle.outline_trie.specs.inside.Children.{is_child, children_among}
 use Rattle.outline_trie.specs.Tries.{AreChildren, child_of}
-use Rattle.steno_rules.specs.Outlines.{outline_cmp, outline_of, number_of}
+use Rattle.steno_rules.specs.Outlines.{outline_cmp, outline_of, entry_number}
 use Rattle.steno_rules.specs.Nodes.{nodes}
-use Rattle.steno_rules.proofs.Numbers.{number_of-Some, number_of-outline_of, outline_of-once}
+use Rattle.steno_rules.proofs.Numbers.{entry_number-Some, entry_number-outline_of, outline_of-once}
 use Rattle.steno_rules.proofs.NodeLemmas.{nodes-rising, nodes-first}
 use Rattle.outline_trie.proofs.OrderLemmas.{nat_cmp_same}
 use Rattle.steno_rules.proofs.Lists.{none_in_nil, in_one, in_first, in_if, pairs_push}
@@ -36,10 +36,10 @@ child_told parents node child later is = plain child (get_or parents child 0) la
     plain : (c p : ℕ) → 0 < c → p ≡ node → (not (nat_eq c 0) && nat_eq p node) ≡ true
     plain c p h e = grind (arith, nat_tests)
 
-pub kid_of : (parents strokes : List ℕ) (node count : ℕ) (pair : ℕ × ℕ) → Contains (kids parents strokes node count) pair → IsKid parents strokes node count pair
+pub kid_of : (parents strokes : List ℕ) (node count : ℕ) (pair : ℕ × ℕ) → Contains (children_among parents strokes node count) pair → IsKid parents strokes node count pair
 kid_of parents strokes node zero pair h = absurd (none_in_nil pair h)
 kid_of parents strokes node (suc count) pair h =
-    by (Contains-append_cases (kids parents strokes node count) (cond (is_child parents node count) ((get_or strokes count 1, count) ∷ []) []) pair h) (kid_of parents strokes node count pair)
+    by (Contains-append_cases (children_among parents strokes node count) (cond (is_child parents node count) ((get_or strokes count 1, count) ∷ []) []) pair h) (kid_of parents strokes node count pair)
   where
     new : (p : ℕ × ℕ) → (get_or strokes count 1, count) ≡ p → is_child parents node count ≡ true → IsKid parents strokes node (suc count) p
     new p same is = subst (IsKid parents strokes node (suc count)) same (record {
@@ -49,22 +49,22 @@ kid_of parents strokes node (suc count) pair h =
       stroke = refl;
     })
 
-    by : Contains (kids parents strokes node count) pair ⊎ Contains (cond (is_child parents node count) ((get_or strokes count 1, count) ∷ []) []) pair →
-        (Contains (kids parents strokes node count) pair → IsKid parents strokes node count pair) → IsKid parents strokes node (suc count) pair
+    by : Contains (children_among parents strokes node count) pair ⊎ Contains (cond (is_child parents node count) ((get_or strokes count 1, count) ∷ []) []) pair →
+        (Contains (children_among parents strokes node count) pair → IsKid parents strokes node count pair) → IsKid parents strokes node (suc count) pair
     by (inl old) rest = let k = rest old in record { below = omega (arith, k.below); later = k.later; parent = k.parent; stroke = k.stroke }
     by (inr one) rest =
         let both = in_if (is_child parents node count) ((get_or strokes count 1, count) ∷ []) pair one in
         new pair (in_one (get_or strokes count 1, count) pair both.1) both.0
 
-pub of_kid : (parents strokes : List ℕ) (node count child : ℕ) → child < count → 0 < child → get_or parents child 0 ≡ node → Contains (kids parents strokes node count) (get_or strokes child 1, child)
+pub of_kid : (parents strokes : List ℕ) (node count child : ℕ) → child < count → 0 < child → get_or parents child 0 ≡ node → Contains (children_among parents strokes node count) (get_or strokes child 1, child)
 of_kid parents strokes node zero child below later is = absurd (omega arith)
 of_kid parents strokes node (suc count) child below later is = elim (cases_eq child count) [
   | inl last ↦
-      Contains-append_right (kids parents strokes node count) (cond (is_child parents node count) ((get_or strokes count 1, count) ∷ []) []) (get_or strokes child 1, child)
+      Contains-append_right (children_among parents strokes node count) (cond (is_child parents node count) ((get_or strokes count 1, count) ∷ []) []) (get_or strokes child 1, child)
       (subst (λ c. Contains {X = ℕ × ℕ} (cond (is_child parents node count) ((get_or strokes count 1, count) ∷ []) []) (get_or strokes c 1, c)) (sym last)
       (rw (child_told parents node count (omega arith) (ap (λ c. get_or parents c 0) (sym last) ∙ is)) (in_first (get_or strokes count 1, count) [])))
   | inr other ↦
-      Contains-append_left (kids parents strokes node count) (cond (is_child parents node count) ((get_or strokes count 1, count) ∷ []) []) (get_or strokes child 1, child)
+      Contains-append_left (children_among parents strokes node count) (cond (is_child parents node count) ((get_or strokes count 1, count) ∷ []) []) (get_or strokes child 1, child)
       (of_kid parents strokes node count child (omega arith) later is)
 ]
 
@@ -92,14 +92,14 @@ module _ (entries : List (List ℕ)) (parents strokes depths : List ℕ) (t : Is
       let s = t.step pair.1 k.later inside in
       s.is ∙ ap (λ p. outline_of X p ++ get_or strokes pair.1 1 ∷ []) k.parent ∙ ap (λ c. outline_of X node ++ c ∷ []) (sym k.stroke)
 
-  kids_rise : (count : ℕ) → count ≤ length X → AllPairs (λ a b. a.0 < b.0) (kids parents strokes node count)
+  kids_rise : (count : ℕ) → count ≤ length X → AllPairs (λ a b. a.0 < b.0) (children_among parents strokes node count)
   kids_rise zero within = λ i j d before inside. absurd (omega arith)
   kids_rise (suc count) within = by (is_child parents node count) refl (kids_rise count (omega arith))
     where
-      by : (b : Bool) → is_child parents node count ≡ b → AllPairs (λ a b. a.0 < b.0) (kids parents strokes node count) →
-          AllPairs (λ a b. a.0 < b.0) (kids parents strokes node count ++ cond b ((get_or strokes count 1, count) ∷ []) [])
-      by false is rest = rw (append-nil (kids parents strokes node count)) rest
-      by true is rest = pairs_push (λ a b. a.0 < b.0) (kids parents strokes node count) (get_or strokes count 1, count) rest (λ x has.
+      by : (b : Bool) → is_child parents node count ≡ b → AllPairs (λ a b. a.0 < b.0) (children_among parents strokes node count) →
+          AllPairs (λ a b. a.0 < b.0) (children_among parents strokes node count ++ cond b ((get_or strokes count 1, count) ∷ []) [])
+      by false is rest = rw (append-nil (children_among parents strokes node count)) rest
+      by true is rest = pairs_push (λ a b. a.0 < b.0) (children_among parents strokes node count) (get_or strokes count 1, count) rest (λ x has.
           let k = kid_of parents strokes node count x has in
           let here = told_child parents node count is in
           last_below (outline_of X node) x.0 (get_or strokes count 1) (
@@ -107,28 +107,28 @@ module _ (entries : List (List ℕ)) (parents strokes depths : List ℕ) (t : Is
           (nodes-rising entries x.1 count [] k.below (omega arith))
           ))
 
-  kid_found : (pair : ℕ × ℕ) → Contains (kids parents strokes node (length X)) pair → child_of entries node pair.0 ≡ Some pair.1
+  kid_found : (pair : ℕ × ℕ) → Contains (children_among parents strokes node (length X)) pair → child_of entries node pair.0 ≡ Some pair.1
   kid_found pair has =
       let k = kid_of parents strokes node (length X) pair has in
-      ap (number_of X) (sym (kid_is (length X) pair k k.below)) ∙ number_of-outline_of X pair.1 (nodes-rising entries) k.below
+      ap (entry_number X) (sym (kid_is (length X) pair k k.below)) ∙ entry_number-outline_of X pair.1 (nodes-rising entries) k.below
 
   root_is : outline_of X 0 ≡ []
   root_is = ap (λ ys. outline_of ys 0) (nodes-first entries).1
 
-  found_kid : (code child : ℕ) → node < length X → child_of entries node code ≡ Some child → Contains (kids parents strokes node (length X)) (code, child)
+  found_kid : (code child : ℕ) → node < length X → child_of entries node code ≡ Some child → Contains (children_among parents strokes node (length X)) (code, child)
   found_kid code child inside h =
-      let found = number_of-Some X (outline_of X node ++ code ∷ []) child h in
+      let found = entry_number-Some X (outline_of X node ++ code ∷ []) child h in
       let later : 0 < child = not_root child found.1 in
       let s = t.step child later found.0 in
       let both = same_from_push (outline_of X (get_or parents child 0)) (outline_of X node) (get_or strokes child 1) code (sym s.is ∙ found.1) in
       let above : get_or parents child 0 ≡ node = outline_of-once X (get_or parents child 0) node (nodes-rising entries) (omega (arith, s.before, found.0)) inside both.0 in
-      subst (λ c. Contains (kids parents strokes node (length X)) (c, child)) both.1 (of_kid parents strokes node (length X) child found.0 later above)
+      subst (λ c. Contains (children_among parents strokes node (length X)) (c, child)) both.1 (of_kid parents strokes node (length X) child found.0 later above)
     where
       not_root : (c : ℕ) → outline_of X c ≡ outline_of X node ++ code ∷ [] → 0 < c
       not_root zero same = absurd (omega (arith, ap length (sym root_is ∙ same), length_push (outline_of X node) code))
       not_root (suc c) same = omega arith
 
-  pub children_are : node < length X → AreChildren entries node (kids parents strokes node (length X))
+  pub children_are : node < length X → AreChildren entries node (children_among parents strokes node (length X))
   children_are inside = record {
     rising = kids_rise (length X) (omega arith);
     each = λ code child. (kid_found (code, child), found_kid code child inside);

@@ -3,7 +3,7 @@ use Rattle.std.proofs.Common.{◌≡◌, ℕ, zero, suc, ◌+◌, ◌-◌, ◌<�
 use Rattle.std.proofs.lemmas.Bool.{cases_lt}
 use Rattle.std.proofs.lemmas.List.{get_or_push}
 use Rattle.std.proofs.lemmas.List.Sums.{common_prefix_len-le}
-use Rattle.outline_trie.specs.Tables.{shared, outline_before}
+use Rattle.outline_trie.specs.inside.Tables.{shared, outline_before}
 use Rattle.steno_rules.specs.Outlines.{outline_cmp, AreEntries, outline_of}
 use Rattle.steno_rules.specs.Nodes.{nodes}
 use Rattle.outline_trie.proofs.OrderLemmas.{front_not_above, shared_same}

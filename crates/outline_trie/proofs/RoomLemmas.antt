@@ -8,7 +8,7 @@ use Rattle.edge_pool.specs.Classes.{class_of, size_of, IsLen}
 use Rattle.edge_pool.specs.Pools.{Pool, spare_of, needed, reserved}
 use Rattle.edge_pool.proofs.ClassLemmas.{class_of_is, class_tight, class_known}
 use Rattle.edge_pool.proofs.MapLemmas.{same_number, other_number}
-use Rattle.outline_trie.specs.Rooms.{has_cells, has_class, rows_of_class, weight, HasRoom, IsReserved, spare_after}
+use Rattle.outline_trie.specs.inside.Rooms.{has_cells, has_class, rows_of_class, weight, HasRoom, IsReserved, spare_after}
 
 -- a count of children is a length of a row
 pub is_len : (counts : List ℕ) (i : ℕ) → sum counts ≤ 4194304 → i < length counts → 0 < get_or counts i 0 → IsLen (get_or counts i 0)

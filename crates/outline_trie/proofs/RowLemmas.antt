@@ -6,8 +6,8 @@ use Rattle.std.proofs.lemmas.List.{get_or_push, get_or_append_left, get_or-map, 
 use Rattle.edge_pool.specs.Pools.{Extent, Pool, Lists, pairs_of, zeros, taken, written}
 use Rattle.edge_pool.proofs.MapLemmas.{same_number, other_number, get_inserted, get_beside_inserted}
 use Rattle.edge_pool.proofs.ListedLemmas.{pairs_there, fresh_apart}
-use Rattle.outline_trie.specs.Tables.{none_number}
-use Rattle.outline_trie.specs.RowsOf.{no_block, row_at, rows_at, AreRows}
+use Rattle.outline_trie.specs.inside.Tables.{none_number}
+use Rattle.outline_trie.specs.inside.RowsOf.{no_block, row_at, rows_at, AreRows}
 
 -- ---- reading a row
 

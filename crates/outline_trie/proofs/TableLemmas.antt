@@ -3,9 +3,9 @@ use Rattle.std.proofs.Common.{◌≡◌, ℕ, zero, suc, ◌+◌, ◌-◌, ◌<�
 use Rattle.std.proofs.lemmas.Bool.{cases_lt, cases_eq}
 use Rattle.std.proofs.lemmas.Option.{none-some}
 use Rattle.std.proofs.lemmas.List.{get_or_push, get_or_append_left, length_push, take-append-le, get_or-take}
-use Rattle.outline_trie.specs.Tables.{IsStep, IsTable, IsNumbered, none_number, written_number, up}
-use Rattle.steno_rules.specs.Outlines.{AreRising, outline_of, number_of}
-use Rattle.steno_rules.proofs.Numbers.{number_of-Some, number_of-outline_of, outline_of-once}
+use Rattle.outline_trie.specs.inside.Tables.{IsStep, IsTable, IsNumbered, none_number, written_number, ancestor}
+use Rattle.steno_rules.specs.Outlines.{AreRising, outline_of, entry_number}
+use Rattle.steno_rules.proofs.Numbers.{entry_number-Some, entry_number-outline_of, outline_of-once}
 
 -- ---- one node more
 
@@ -50,47 +50,47 @@ table_more X parents strokes depths parent stroke depth w t within is deep = rec
           is = new_outline X w node last ∙ is ∙ ap (λ v. v ++ stroke ∷ []) (sym (old_outline X w parent within));
         })
 
-pub numbered_more : (entries X : List (List ℕ)) (numbers : List ℕ) (w : List ℕ) → IsNumbered entries X numbers → number_of entries w ≡ None → IsNumbered entries (X ++ w ∷ []) (numbers ++ none_number ∷ [])
+pub numbered_more : (entries X : List (List ℕ)) (numbers : List ℕ) (w : List ℕ) → IsNumbered entries X numbers → entry_number entries w ≡ None → IsNumbered entries (X ++ w ∷ []) (numbers ++ none_number ∷ [])
 numbered_more entries X numbers w h none = record {
   long = omega (arith, length_push numbers none_number, length_push X w, h.long);
   number = λ node inside. elim (cases_lt node (length X)) [
     | inl old ↦
         get_or_append_left numbers (none_number ∷ []) 0 node (omega (arith, h.long)) ∙ h.number node old
-        ∙ ap (λ v. written_number (number_of entries v)) (sym (old_outline X w node old))
+        ∙ ap (λ v. written_number (entry_number entries v)) (sym (old_outline X w node old))
     | inr new ↦
         let last : node ≡ length X = omega (arith, length_push X w) in
         get_or_push numbers none_number 0 node (omega (arith, h.long)) ∙ ap written_number (sym none)
-        ∙ ap (λ v. written_number (number_of entries v)) (sym (new_outline X w node last))
+        ∙ ap (λ v. written_number (entry_number entries v)) (sym (new_outline X w node last))
   ];
 }
 
 -- ---- one entry more
 
-no_number : (entries : List (List ℕ)) (x : List ℕ) (o : Option ℕ) → number_of entries x ≡ o → ((e : ℕ) → e < length entries → outline_of entries e ≡ x → ⊥) → o ≡ None
+no_number : (entries : List (List ℕ)) (x : List ℕ) (o : Option ℕ) → entry_number entries x ≡ o → ((e : ℕ) → e < length entries → outline_of entries e ≡ x → ⊥) → o ≡ None
 no_number entries x None is none = refl
-no_number entries x (Some e) is none = let found = number_of-Some entries x e is in absurd (none e found.0 found.1)
+no_number entries x (Some e) is none = let found = entry_number-Some entries x e is in absurd (none e found.0 found.1)
 
 -- what is no entry has no number
-pub number_of-None : (entries : List (List ℕ)) (x : List ℕ) → ((e : ℕ) → e < length entries → outline_of entries e ≡ x → ⊥) → number_of entries x ≡ None
-number_of-None entries x none = no_number entries x (number_of entries x) refl none
+pub entry_number-None : (entries : List (List ℕ)) (x : List ℕ) → ((e : ℕ) → e < length entries → outline_of entries e ≡ x → ⊥) → entry_number entries x ≡ None
+entry_number-None entries x none = no_number entries x (entry_number entries x) refl none
 
 -- one entry more leaves the numbers of the others
-pub number_of_other : (entries : List (List ℕ)) (e x : List ℕ) → AreRising entries → AreRising (entries ++ e ∷ []) → (e ≡ x → ⊥) → number_of (entries ++ e ∷ []) x ≡ number_of entries x
-number_of_other entries e x front rising other = by (number_of entries x) refl
+pub number_of_other : (entries : List (List ℕ)) (e x : List ℕ) → AreRising entries → AreRising (entries ++ e ∷ []) → (e ≡ x → ⊥) → entry_number (entries ++ e ∷ []) x ≡ entry_number entries x
+number_of_other entries e x front rising other = by (entry_number entries x) refl
   where
-    by : (o : Option ℕ) → number_of entries x ≡ o → number_of (entries ++ e ∷ []) x ≡ o
-    by None is = number_of-None (entries ++ e ∷ []) x (λ n inside same. elim (cases_lt n (length entries)) [
-      | inl old ↦ absurd (none-some n (sym is ∙ ap (number_of entries) (sym same ∙ old_outline entries e n old) ∙ number_of-outline_of entries n front old))
+    by : (o : Option ℕ) → entry_number entries x ≡ o → entry_number (entries ++ e ∷ []) x ≡ o
+    by None is = entry_number-None (entries ++ e ∷ []) x (λ n inside same. elim (cases_lt n (length entries)) [
+      | inl old ↦ absurd (none-some n (sym is ∙ ap (entry_number entries) (sym same ∙ old_outline entries e n old) ∙ entry_number-outline_of entries n front old))
       | inr new ↦ absurd (other (sym (new_outline entries e n (omega (arith, length_push entries e))) ∙ same))
     ])
     by (Some n) is =
-        let found = number_of-Some entries x n is in
-        ap (number_of (entries ++ e ∷ [])) (sym (old_outline entries e n found.0 ∙ found.1)) ∙ number_of-outline_of (entries ++ e ∷ []) n rising (omega (arith, found.0, length_push entries e))
+        let found = entry_number-Some entries x n is in
+        ap (entry_number (entries ++ e ∷ [])) (sym (old_outline entries e n found.0 ∙ found.1)) ∙ entry_number-outline_of (entries ++ e ∷ []) n rising (omega (arith, found.0, length_push entries e))
 
 -- and has the next number
-pub number_of_last : (entries : List (List ℕ)) (e : List ℕ) → AreRising (entries ++ e ∷ []) → number_of (entries ++ e ∷ []) e ≡ Some (length entries)
+pub number_of_last : (entries : List (List ℕ)) (e : List ℕ) → AreRising (entries ++ e ∷ []) → entry_number (entries ++ e ∷ []) e ≡ Some (length entries)
 number_of_last entries e rising =
-    ap (number_of (entries ++ e ∷ [])) (sym (new_outline entries e (length entries) refl)) ∙ number_of-outline_of (entries ++ e ∷ []) (length entries) rising (omega (arith, length_push entries e))
+    ap (entry_number (entries ++ e ∷ [])) (sym (new_outline entries e (length entries) refl)) ∙ entry_number-outline_of (entries ++ e ∷ []) (length entries) rising (omega (arith, length_push entries e))
 
 pub numbered_set : (entries X : List (List ℕ)) (numbers : List ℕ) (e : List ℕ) (at : ℕ) → AreRising entries → AreRising (entries ++ e ∷ []) → AreRising X → IsNumbered entries X numbers →
     at < length X → outline_of X at ≡ e → IsNumbered (entries ++ e ∷ []) X (set numbers at (length entries))
@@ -104,10 +104,10 @@ numbered_set entries X numbers e at front rising distinct h inside is = record {
   ];
 }
   where
-    here : (node : ℕ) → node ≡ at → get_or (set numbers at (length entries)) node 0 ≡ written_number (number_of (entries ++ e ∷ []) (outline_of X node))
+    here : (node : ℕ) → node ≡ at → get_or (set numbers at (length entries)) node 0 ≡ written_number (entry_number (entries ++ e ∷ []) (outline_of X node))
     here node same =
         ap (λ n. get_or (set numbers at (length entries)) n 0) same ∙ get_or-set_same numbers at (length entries) 0 (omega (arith, h.long))
-        ∙ ap written_number (sym (number_of_last entries e rising)) ∙ ap (λ v. written_number (number_of (entries ++ e ∷ []) v)) (sym (ap (outline_of X) same ∙ is))
+        ∙ ap written_number (sym (number_of_last entries e rising)) ∙ ap (λ v. written_number (entry_number (entries ++ e ∷ []) v)) (sym (ap (outline_of X) same ∙ is))
 
 pub rising_take : (entries : List (List ℕ)) (k : ℕ) → AreRising entries → AreRising (take k entries)
 rising_take entries k rising i j d below inside =
@@ -122,7 +122,7 @@ pub record IsAbove (X : List (List ℕ)) (node levels at : ℕ) : Type 0 where
   pub is : outline_of X at ≡ take (length (outline_of X node) - levels) (outline_of X node)
 
 pub up_is : (X : List (List ℕ)) (parents strokes depths : List ℕ) (levels node : ℕ) → IsTable X parents strokes depths → outline_of X 0 ≡ [] → node < length X → levels ≤ length (outline_of X node) →
-    IsAbove X node levels (up parents node levels)
+    IsAbove X node levels (ancestor parents node levels)
 up_is X parents strokes depths zero node t root inside within = record { inside = inside; is = sym (take_all (length (outline_of X node) - 0) (outline_of X node) (omega arith)) }
 up_is X parents strokes depths (suc levels) node t root inside within = elim (cases_eq node 0) [
   | inl first ↦ absurd (omega (arith, within, ap (λ n. length (outline_of X n)) first, ap length root))
@@ -130,8 +130,8 @@ up_is X parents strokes depths (suc levels) node t root inside within = elim (ca
 ]
   where
     above : IsStep X node (get_or parents node 0) (get_or strokes node 1) →
-        (get_or parents node 0 < length X → levels ≤ length (outline_of X (get_or parents node 0)) → IsAbove X (get_or parents node 0) levels (up parents (get_or parents node 0) levels)) →
-        IsAbove X node (suc levels) (up parents (get_or parents node 0) levels)
+        (get_or parents node 0 < length X → levels ≤ length (outline_of X (get_or parents node 0)) → IsAbove X (get_or parents node 0) levels (ancestor parents (get_or parents node 0) levels)) →
+        IsAbove X node (suc levels) (ancestor parents (get_or parents node 0) levels)
     above s above_parent =
         let long : length (outline_of X node) ≡ length (outline_of X (get_or parents node 0)) + 1 = ap length s.is ∙ length_push (outline_of X (get_or parents node 0)) (get_or strokes node 1) in
         let rest = above_parent (omega (arith, s.before)) (omega (arith, long)) in
@@ -146,6 +146,6 @@ up_is X parents strokes depths (suc levels) node t root inside within = elim (ca
         less : (a b : ℕ) → a ≡ b + 1 → b - levels ≡ a - suc levels
         less a b e = omega arith
 
-pub up_more : (parents : List ℕ) (node levels : ℕ) → up parents node (suc levels) ≡ get_or parents (up parents node levels) 0
+pub up_more : (parents : List ℕ) (node levels : ℕ) → ancestor parents node (suc levels) ≡ get_or parents (ancestor parents node levels) 0
 up_more parents node zero = refl
 up_more parents node (suc levels) = up_more parents (get_or parents node 0) levels

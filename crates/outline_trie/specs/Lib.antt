@@ -1,7 +1,3 @@
 pub mod Tries
 pub mod Causes
-pub mod Tables
-pub mod Kids
-pub mod RowsOf
-pub mod Rooms
-pub mod Invariants
+pub mod inside

@@ -3,7 +3,7 @@ ghost use Rattle.std.specs.Prelude.{◌≡◌, ◌<◌, ◌≤◌, ◌^◌, leng
 ghost use Rattle.steno_rules.specs.Outlines.{AreEntries};
 ghost use Rattle.steno_rules.specs.Nodes.{nodes};
 ghost use Rattle.outline_trie.specs.Tries.{longest_of};
-ghost use Rattle.outline_trie.specs.Tables.{outline_before};
+ghost use Rattle.outline_trie.specs.inside.Tables.{outline_before};
 
 use crate::shared::shared_len;
 use history::History;

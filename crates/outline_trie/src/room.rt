@@ -2,8 +2,8 @@
 //! of the building can be refused.
 ghost use Rattle.std.specs.Prelude.{ℕ, ◌≡◌, ◌+◌, ◌*◌, ◌<◌, ◌≤◌, ◌++◌, ◌∷◌, [], sum, length, get_or, vec_capacity, IfOk};
 ghost use Rattle.edge_pool.specs.Pools.{zeros, spare_of, uncut_pool};
-ghost use Rattle.outline_trie.specs.Rooms.{HasRoom, IsReserved, has_cells, rows_in, rows_of_class, spare_after, weight};
-ghost use Rattle.outline_trie.specs.RowsOf.{AreRows, rows_at};
+ghost use Rattle.outline_trie.specs.inside.Rooms.{HasRoom, IsReserved, has_cells, rows_in, rows_of_class, spare_after, weight};
+ghost use Rattle.outline_trie.specs.inside.RowsOf.{AreRows, rows_at};
 
 use edge_pool::{Block, CLASSES, EdgePool, class_of_len, size_of_class};
 use std::alloc::{AllocError, Global};

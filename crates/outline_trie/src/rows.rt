@@ -1,8 +1,8 @@
 //! The rows of children, in one pool.
 ghost use Rattle.std.specs.Prelude.{ℕ, ◌≡◌, ◌<◌, ◌≤◌, [], All, map, sum, length, get_or, slice_set, replicate, vec_capacity, IfOk};
 ghost use Rattle.edge_pool.specs.Pools.{zeros};
-ghost use Rattle.outline_trie.specs.Kids.{kid_count, kids};
-ghost use Rattle.outline_trie.specs.Rooms.{HasRoom};
+ghost use Rattle.outline_trie.specs.inside.Children.{child_count, children_among};
+ghost use Rattle.outline_trie.specs.inside.Rooms.{HasRoom};
 
 use crate::room::{NO_ROW, Room, room_for};
 use edge_pool::{Block, EdgePool};
@@ -21,7 +21,7 @@ pub(crate) struct Rows {
 
 impl Model for Rows {
     ghost use Rattle.std.specs.Prelude.{ℕ, List};
-    ghost use Rattle.outline_trie.specs.RowsOf.{rows_at, AreRows};
+    ghost use Rattle.outline_trie.specs.inside.RowsOf.{rows_at, AreRows};
 
     ghost Value = { List (List (ℕ × ℕ)) };
 
@@ -41,7 +41,7 @@ pub(crate) fn rows_of(
     requires long { length strokes.now ≡ length parents.now }
     requires below { All (λ p. p < length parents.now) parents.now }
     ensures long { IfOk result (λ rows. length rows ≡ length parents.now) }
-    ensures rows { IfOk result (λ rows. (node : ℕ) → node < length parents.now → get_or rows node [] ≡ kids parents.now strokes.now node (length parents.now)) }
+    ensures rows { IfOk result (λ rows. (node : ℕ) → node < length parents.now → get_or rows node [] ≡ children_among parents.now strokes.now node (length parents.now)) }
 {
     let counts = count_children(alloc, parents)?;
     let room = room_for(alloc, counts.as_slice())?;
@@ -64,7 +64,7 @@ fn count_children(alloc: Global, parents: &[u32]) -> Result<Vec<u32>, AllocError
     requires few { length parents.now ≤ 4194304 }
     requires below { All (λ p. p < length parents.now) parents.now }
     ensures long { IfOk result (λ counts. length counts.items ≡ length parents.now) }
-    ensures each { IfOk result (λ counts. (node : ℕ) → node < length parents.now → get_or counts.items node 0 ≡ kid_count parents.now node (length parents.now)) }
+    ensures each { IfOk result (λ counts. (node : ℕ) → node < length parents.now → get_or counts.items node 0 ≡ child_count parents.now node (length parents.now)) }
     ensures total { IfOk result (λ counts. sum counts.items ≤ length parents.now) }
 {
     let mut counts = vec![in alloc; 0; parents.len()]?;
@@ -102,9 +102,9 @@ impl Rows {
         requires below { All (λ p. p < length parents.now) parents.now }
         requires filled { filled.items ≡ replicate (length parents.now) 0 }
         requires rows { length self.old ≡ length parents.now }
-        requires empty { (node : ℕ) → node < length parents.now → get_or self.old node [] ≡ zeros (kid_count parents.now node (length parents.now)) }
+        requires empty { (node : ℕ) → node < length parents.now → get_or self.old node [] ≡ zeros (child_count parents.now node (length parents.now)) }
         ensures long { length self.new ≡ length parents.now }
-        ensures rows { (node : ℕ) → node < length parents.now → get_or self.new node [] ≡ kids parents.now strokes.now node (length parents.now) }
+        ensures rows { (node : ℕ) → node < length parents.now → get_or self.new node [] ≡ children_among parents.now strokes.now node (length parents.now) }
     {
         for child in 1..parents.len() {
             let parent = parents[child];

@@ -1,6 +1,6 @@
 //! What two outlines begin with alike.
 ghost use Rattle.std.specs.Prelude.{◌≡◌, ◌≤◌, length};
-ghost use Rattle.outline_trie.specs.Tables.{shared};
+ghost use Rattle.outline_trie.specs.inside.Tables.{shared};
 
 use stroke::Stroke;
 

@@ -3,7 +3,7 @@
 ghost use Rattle.std.specs.Prelude.{ℕ, ◌≡◌, ◌+◌, ◌-◌, ◌<◌, ◌≤◌, ◌++◌, ◌∷◌, [], ◌^◌, length, take, vec_capacity, All, IfOk};
 ghost use Rattle.steno_rules.specs.Outlines.{AreEntries, outline_of};
 ghost use Rattle.steno_rules.specs.Nodes.{nodes};
-ghost use Rattle.outline_trie.specs.Tables.{IsTable, IsNumbered, HasPlaces, outline_before, shared, up, none_number};
+ghost use Rattle.outline_trie.specs.inside.Tables.{IsTable, IsNumbered, HasPlaces, outline_before, shared, ancestor, none_number};
 
 use crate::count::strokes_before;
 use crate::shared::shared_len;
@@ -132,7 +132,7 @@ fn climb(parents: &[u32], levels: usize) -> u32
     requires some { 0 < length parents.now }
     requires few { length parents.now ≤ 4194304 }
     requires below { All (λ p. p < length parents.now) parents.now }
-    ensures { result ≡ up parents.now (length parents.now - 1) levels }
+    ensures { result ≡ ancestor parents.now (length parents.now - 1) levels }
 {
     let mut node = parents.len() as u32 - 1;
     for _ in 0..levels {

@@ -1,8 +1,8 @@
 //! The trie: its columns, its rows, and the look-ups.
 ghost use Rattle.std.specs.Prelude.{◌≡◌, ◌+◌, ◌-◌, ◌<◌, ◌≤◌, ◌^◌, ℕ, length, IfOk, IfErr, MatchOption};
-ghost use Rattle.steno_rules.specs.Outlines.{AreEntries, number_of};
+ghost use Rattle.steno_rules.specs.Outlines.{AreEntries, entry_number};
 ghost use Rattle.steno_rules.specs.Nodes.{nodes};
-ghost use Rattle.outline_trie.specs.Tries.{IsNode, strokes_of, child_of, AreChildren, suffix_of, IsParent, IsLast, longest_of};
+ghost use Rattle.outline_trie.specs.Tries.{IsNode, node_strokes, child_of, AreChildren, suffix_of, IsParent, IsLast, longest_of};
 
 use crate::count::{count_nodes, tell};
 use crate::rows::{Rows, rows_of};
@@ -40,7 +40,7 @@ pub struct Trie {
 
 impl Model for Trie {
     ghost use Rattle.std.specs.Prelude.{ℕ, List, reverse};
-    ghost use Rattle.outline_trie.specs.Invariants.{IsTrie};
+    ghost use Rattle.outline_trie.specs.inside.Invariants.{IsTrie};
 
     ghost Value = { List (List ℕ) };
 
@@ -50,7 +50,7 @@ impl Model for Trie {
 }
 
 impl Trie {
-    ghost use Rattle.outline_trie.specs.Causes.{IsCauseOf};
+    ghost use Rattle.outline_trie.specs.Causes.{IsTrieCause};
 
     /// The most nodes of a trie.
     pub const MAX_NODES: u64 = 4_194_304;
@@ -62,7 +62,7 @@ impl Trie {
         requires few { length entries.now < 2 ^ 31 }
         ensures built { IfOk result (λ trie. trie ≡ entries.now) }
         ensures within { IfOk result (λ trie. length (nodes entries.now) ≤ 4194304) }
-        ensures cause { IfErr result (IsCauseOf (length (nodes entries.now))) }
+        ensures cause { IfErr result (IsTrieCause (length (nodes entries.now))) }
     {
         let count = count_nodes(entries);
         if count > Trie::MAX_NODES {
@@ -139,7 +139,7 @@ impl Trie {
     /// The entry that a node is, None where it only begins one.
     pub fn entry(&self, node: u32) -> Option<u32>
         requires { IsNode self.now node }
-        ensures { result ≡ number_of self.now (strokes_of self.now node) }
+        ensures { result ≡ entry_number self.now (node_strokes self.now node) }
     {
         let number = self.numbers[node as usize];
         if number == NO_ENTRY {
@@ -152,7 +152,7 @@ impl Trie {
     /// How many strokes a node has.
     pub fn depth(&self, node: u32) -> u32
         requires { IsNode self.now node }
-        ensures depth { result ≡ length (strokes_of self.now node) }
+        ensures depth { result ≡ length (node_strokes self.now node) }
         ensures short { result ≤ 64 }
     {
         u32::from(self.depths[node as usize])
@@ -184,7 +184,7 @@ impl Trie {
 
     /// The node of these strokes, None where no entry begins with them. One look-up a stroke.
     pub fn find(&self, strokes: &[Stroke]) -> Option<u32>
-        ensures { result ≡ number_of (nodes self.now) strokes.now }
+        ensures { result ≡ entry_number (nodes self.now) strokes.now }
     {
         let mut node = 0;
         for &stroke in strokes {

@@ -34,7 +34,7 @@ impl Model for Places {
 
     ghost Value = { PlacesView };
 
-    ghost use Rattle.outside.specs.PlacesInside.{places_view, HasNames};
+    ghost use Rattle.outside.specs.inside.Places.{places_view, HasNames};
 
     ghost view = { places_view };
 

@@ -5,11 +5,11 @@ use Rattle.std.proofs.lemmas.Grind.{get_or-set_at}
 use Rattle.std.proofs.lemmas.Bool.{eqb-true}
 use Rattle.std.proofs.lemmas.Bool.Decides.{eqb_tells}
 use Rattle.std.specs.Prelude.{cond}
-use Rattle.graph_rules.specs.Graphs.{HasTarget, IsBest, IsSettled, Stands, moved, unreached}
+use Rattle.graph_rules.specs.Graphs.{HasTarget, IsBest, IsSettledWord, Stands, moved, unreached}
 use Rattle.graph_rules.proofs.Distances.{same_or_not, source_below}
 use Rattle.graph_rules.proofs.RelaxedLemmas.{settled_stands}
 use Rattle.graph_rules.proofs.SettledLemmas.{best_once}
-use Rattle.round_core.specs.InRounds.{IsWithin, IsOfRound, IsNoting}
+use Rattle.round_core.specs.inside.InRounds.{IsWithin, IsOfRound, IsNoting}
 use Rattle.round_core.specs.Machines.{lowered, noted_with}
 use Rattle.round_core.specs.Rounds.{Has, IsNear, IsFar, IsBetween, IsFrontier}
 use Rattle.round_core.proofs.Members.{has_none, has_left, has_last, has_snoc}
@@ -114,7 +114,7 @@ module _ (o : ℕ) (ls : List (List ℕ)) where
         | inr (inr found) ↦ found_best o ls k s (get_or words s 0) found
       ]
 
-      word_is : (s w : ℕ) → IsBest o ls s (suc k) → IsSettled o ls s w → IsOfRound k w
+      word_is : (s w : ℕ) → IsBest o ls s (suc k) → IsSettledWord o ls s w → IsOfRound k w
       word_is s w b (inl is) = absurd (let l = b.least 0 is.0 in omega (arith, l))
       word_is s w b (inr (inl is)) =
           let same = best_once o ls s (is.1.0 + 1) (suc k) is.1.2 b in

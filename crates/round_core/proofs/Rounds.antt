@@ -3,11 +3,11 @@ use Rattle.std.proofs.Common.{◌≡◌, ◌≢◌, ℕ, zero, suc, ◌+◌, ◌
 use Rattle.std.proofs.lemmas.List.{get_or-set_other, get_or-replicate, length-set, length-replicate, get_or_past}
 use Rattle.std.proofs.lemmas.Bool.{cases_lt}
 use Rattle.std.proofs.lemmas.Grind.{get_or-set_at}
-use Rattle.graph_rules.specs.Graphs.{HasTarget, Reaches, IsBest, IsSettled, AreSettled, moved, unreached}
+use Rattle.graph_rules.specs.Graphs.{HasTarget, Reaches, IsBest, IsSettledWord, AreSettled, moved, unreached}
 use Rattle.graph_rules.proofs.Distances.{same_or_not, source_below}
 use Rattle.graph_rules.proofs.SettledLemmas.{best_once}
 use Rattle.round_core.specs.Rounds.{IsBeyond, IsNear, IsFar, IsBetween}
-use Rattle.round_core.specs.InRounds.{IsFound, IsWithin}
+use Rattle.round_core.specs.inside.InRounds.{IsFound, IsWithin}
 
 module _ (o : ℕ) (ls : List (List ℕ)) where
   -- at the start
@@ -55,7 +55,7 @@ module _ (o : ℕ) (ls : List (List ℕ)) where
   pub near_low : (k s w : ℕ) → length ls ≤ 33554432 → IsNear o ls k s w → w < (k + 1) * 4294967296
   near_low k s w few h = by h.settled
     where
-      by : IsSettled o ls s w → w < (k + 1) * 4294967296
+      by : IsSettledWord o ls s w → w < (k + 1) * 4294967296
       by (inl is) = let word = is.1 in omega (arith, word)
       by (inr (inl is)) =
           let same = best_once o ls s (is.1.0 + 1) h.n is.1.2 h.best in let within = h.within in
@@ -185,7 +185,7 @@ module _ (o : ℕ) (ls : List (List ℕ)) where
     each = λ s s_below. settled_word s (let count = h.count in let below : s < length ls = omega (arith, count, s_below) in below);
   }
     where
-      settled_word : (s : ℕ) → s < length ls → IsSettled o ls s (get_or words s 0)
+      settled_word : (s : ℕ) → s < length ls → IsSettledWord o ls s (get_or words s 0)
       settled_word s below = elim (h.each s below) [
         | inl near ↦ near.settled
         | inr far ↦ inr (inr ((λ n walk. (let before = levels k words h none n s below walk in far.beyond before.0 (let lt = before.1 in omega (arith, lt)) before.2.walk)), far.word))

@@ -7,9 +7,9 @@ use Rattle.graph_rules.specs.Graphs.{HasTarget, IsBest, AreSettled, Stands, move
 use Rattle.graph_rules.proofs.Distances.{same_or_not, source_below}
 use Rattle.round_core.specs.declared.event.Event.{Event}
 use Rattle.round_core.specs.declared.event.Event.TheVariants.{Begin, Take, Relax, Close}
-use Rattle.round_core.specs.InRounds.{IsNoting}
-use Rattle.round_core.specs.Machines.{Move, Machine, batch_of, batch_count, moves_in, is_empty, is_free, is_busy, none_untaken, all_free, is_enabled, relaxes, does, after, run, opening, noted_with, IsGraph, IsBetweenRounds}
-use Rattle.round_core.specs.Rounds.{Has, IsBetween, IsFrontier, AreRising}
+use Rattle.round_core.specs.inside.InRounds.{IsNoting}
+use Rattle.round_core.specs.Machines.{Move, Machine, batch_of, batch_count, moves_in, is_empty, is_free, is_busy, none_untaken, all_free, is_enabled, relaxes, does, after_event, run, opening, noted_with, IsGraph, IsBetweenRounds}
+use Rattle.round_core.specs.Rounds.{Has, IsBetween, IsFrontier, AreRisingNumbers}
 use Rattle.round_core.specs.Searches.{sum_reached}
 use Rattle.round_core.proofs.Enabled.{none_some, some_some, free_is, busy_is, untaken_is, idle, free, nonempty, not_true}
 use Rattle.round_core.proofs.Members.{has_none}
@@ -32,7 +32,7 @@ module _ (o : ℕ) (ls : List (List ℕ)) where
     pub begun : m.begun ≡ false
     pub between : IsBetween o ls m.closed m.words
     pub front : IsFrontier o ls m.closed m.front
-    pub rising : AreRising m.front
+    pub rising : AreRisingNumbers m.front
     pub noted : m.noted ≡ []
     pub idle : (b : ℕ) → slice_get m.untaken b ≡ Some true → ⊥
     pub free : (w : ℕ) (moves : List Move) → slice_get m.hands w ≡ Some (Some moves) → ⊥
@@ -213,7 +213,7 @@ module _ (o : ℕ) (ls : List (List ℕ)) where
   does_good m Close g (inr h) on = let parts = and_parts m.begun (none_untaken m.untaken && all_free m.hands) on in let more = and_parts (none_untaken m.untaken) (all_free m.hands) parts.1 in inl (ends m g h more.0 more.1)
 
   -- each event keeps it
-  pub after_good : (m : Machine) (e : Event) → IsGraph o ls → Good m → Good (after ls m e)
+  pub after_good : (m : Machine) (e : Event) → IsGraph o ls → Good m → Good (after_event ls m e)
   after_good m e g h = by (is_enabled m e) refl
     where
       by : (b : Bool) → is_enabled m e ≡ b → Good (cond b (does ls m e) m)
@@ -222,7 +222,7 @@ module _ (o : ℕ) (ls : List (List ℕ)) where
 
   pub run_good : (m : Machine) (es : List Event) → IsGraph o ls → Good m → Good (run ls m es)
   run_good m [] g h = h
-  run_good m (e ∷ es) g h = run_good (after ls m e) es g (after_good m e g h)
+  run_good m (e ∷ es) g h = run_good (after_event ls m e) es g (after_good m e g h)
 
   pub opening_good : (workers : ℕ) → IsGraph o ls → Good (opening o ls workers)
   opening_good workers g = inl (record {

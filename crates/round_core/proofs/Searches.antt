@@ -8,7 +8,7 @@ use Rattle.std.proofs.lemmas.Bool.Decides.{eqb_tells}
 use Rattle.graph_rules.specs.Graphs.{row, HasTarget, IsBest, AreSettled, moved, unreached}
 use Rattle.graph_rules.proofs.Distances.{source_below}
 use Rattle.graph_rules.proofs.SettledLemmas.{best_once}
-use Rattle.round_core.specs.InRounds.{IsNoting, IsReady, moves_of}
+use Rattle.round_core.specs.inside.InRounds.{IsNoting, IsReady, moves_of}
 use Rattle.round_core.specs.Machines.{lowered, noted_with}
 use Rattle.round_core.specs.Rounds.{Has, IsBetween, IsFrontier}
 use Rattle.round_core.specs.Searches.{sum_reached, IsRounds}

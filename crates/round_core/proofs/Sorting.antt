@@ -8,7 +8,7 @@ use Rattle.std.proofs.lemmas.List.Sums.{sum_by-cons}
 use Rattle.std.proofs.lemmas.Bool.{ltb-true, ltb-false, cases_lt, lt-ltb, le-ltb}
 use Rattle.std.proofs.lemmas.Option.{slice_get_within, get_or_from_slice_get}
 use Rattle.round_core.specs.Machines.{put, sorted}
-use Rattle.round_core.specs.Rounds.{Has, AreRising}
+use Rattle.round_core.specs.Rounds.{Has, AreRisingNumbers}
 use Rattle.round_core.proofs.Members.{has_none, has_snoc, has_cons, has_first, has_later}
 
 -- ---- members and order
@@ -59,11 +59,11 @@ put_length x (y ∷ ys) = by (nat_lt y x) (put_length x ys)
 distinct_lt : (a b : ℕ) → b ≤ a → a ≢ b → b < a
 distinct_lt a b le ne = elim (cases_lt b a) [ inl lt ↦ lt | inr ge ↦ absurd (ne (omega (arith, le, ge))) ]
 
-put_rising : (x : ℕ) (ys : List ℕ) → AreRising ys → (Has ys x → ⊥) → AreRising (put x ys)
+put_rising : (x : ℕ) (ys : List ℕ) → AreRisingNumbers ys → (Has ys x → ⊥) → AreRisingNumbers (put x ys)
 put_rising x [] h new = ((λ y has. absurd (has_none y has)), tt)
 put_rising x (y ∷ ys) h new = by (nat_lt y x) refl (put_rising x ys h.1 (λ has. new (has_later y ys x has)))
   where
-    by : (b : Bool) → nat_lt y x ≡ b → AreRising (put x ys) → AreRising (cond b (y ∷ put x ys) (x ∷ y ∷ ys))
+    by : (b : Bool) → nat_lt y x ≡ b → AreRisingNumbers (put x ys) → AreRisingNumbers (cond b (y ∷ put x ys) (x ∷ y ∷ ys))
     by true is rest = ((λ z has. elim (put_has x ys z has) [ inl same ↦ (let l = ltb-true y x is in omega (arith, l, same)) | inr old ↦ h.0 z old ]), rest)
     by false is rest = (
       (λ z has. elim (has_cons y ys z has) [
@@ -85,7 +85,7 @@ pub sorted_length : (xs : List ℕ) → length (sorted xs) ≡ length xs
 sorted_length [] = refl
 sorted_length (x ∷ xs) = let e = put_length x (sorted xs) in let f = sorted_length xs in omega (arith, e, f)
 
-pub sorted_rising : (xs : List ℕ) → AreDistinct xs → AreRising (sorted xs)
+pub sorted_rising : (xs : List ℕ) → AreDistinct xs → AreRisingNumbers (sorted xs)
 sorted_rising [] h = tt
 sorted_rising (x ∷ xs) h = put_rising x (sorted xs) (sorted_rising xs h.1) (λ has. h.0 x (sorted_has xs x has) refl)
 

@@ -9,7 +9,7 @@ use Rattle.round_core.specs.declared.event.Event.{Event}
 use Rattle.round_core.specs.declared.event.Event.TheVariants.{Begin, Take, Relax, Close}
 use Rattle.round_core.specs.declared.hand.Hand.{Hand}
 use Rattle.round_core.specs.Hands.{hand_moves, hand_view, machine_of, moves_held, IsReached, AreBelow, NextMove, Owned, OwnsHand, RoundView, stepped}
-use Rattle.round_core.specs.Machines.{Move, Machine, moves_in, batch_of, batch_count, sorted, is_empty, is_free, is_busy, none_untaken, all_free, is_enabled, lowered, noted_with, does, after, relaxes, run, opening, IsGraph}
+use Rattle.round_core.specs.Machines.{Move, Machine, moves_in, batch_of, batch_count, sorted, is_empty, is_free, is_busy, none_untaken, all_free, is_enabled, lowered, noted_with, does, after_event, relaxes, run, opening, IsGraph}
 use Rattle.round_core.proofs.Enabled.{free_is, busy_is, untaken_is, nonempty}
 use Rattle.round_core.proofs.Places.{get_set_at, get_set_other, get_replicate_is}
 use Rattle.round_core.proofs.Schedules.{Good, run_good, opening_good, few_closed, stands_good}
@@ -20,17 +20,17 @@ viewed o ls m = record { origin = o; lists = ls; now = m }
 
 -- ---- schedules
 
-run_more : (ls : List (List ℕ)) (m : Machine) (es : List Event) (e : Event) → run ls m (es ++ e ∷ []) ≡ after ls (run ls m es) e
+run_more : (ls : List (List ℕ)) (m : Machine) (es : List Event) (e : Event) → run ls m (es ++ e ∷ []) ≡ after_event ls (run ls m es) e
 run_more ls m [] e = refl
-run_more ls m (f ∷ es) e = run_more ls (after ls m f) es e
+run_more ls m (f ∷ es) e = run_more ls (after_event ls m f) es e
 
-pub reached_after : (o : ℕ) (ls : List (List ℕ)) (m n : Machine) (e : Event) → IsReached o ls m → n ≡ after ls m e → IsReached o ls n
-reached_after o ls m n e h is = (h.0, h.1 ++ e ∷ [], is ∙ ap (λ k. after ls k e) h.2 ∙ sym (run_more ls (opening o ls h.0) h.1 e))
+pub reached_after : (o : ℕ) (ls : List (List ℕ)) (m n : Machine) (e : Event) → IsReached o ls m → n ≡ after_event ls m e → IsReached o ls n
+reached_after o ls m n e h is = (h.0, h.1 ++ e ∷ [], is ∙ ap (λ k. after_event ls k e) h.2 ∙ sym (run_more ls (opening o ls h.0) h.1 e))
 
 pub reached_good : (o : ℕ) (ls : List (List ℕ)) (m : Machine) → IsGraph o ls → IsReached o ls m → Good o ls m
 reached_good o ls m g h = subst (λ k. Good o ls k) (sym h.2) (run_good o ls (opening o ls h.0) h.1 g (opening_good o ls h.0 g))
 
-after_on : (ls : List (List ℕ)) (m : Machine) (e : Event) → is_enabled m e ≡ true → does ls m e ≡ after ls m e
+after_on : (ls : List (List ℕ)) (m : Machine) (e : Event) → is_enabled m e ≡ true → does ls m e ≡ after_event ls m e
 after_on ls m e on = sym (ap (λ b. cond b (does ls m e) m) on)
 
 -- ---- what an enabled event tells
@@ -150,14 +150,14 @@ module _ {C : Type 0} (left : C → List ℕ) (ls : List (List ℕ)) where
   pub begin_is : (words front : List ℕ) (closed : ℕ) (begun : Bool) (noted : List ℕ) (old size : ℕ) (untaken now : List Bool) (hands : List (Option (Hand C)))
       → is_enabled (machine_of left ls words front closed begun noted old untaken hands) (Begin size) ≡ true
       → now ≡ replicate (batch_count (length front) size) true
-      → machine_of left ls words front closed true noted size now hands ≡ after ls (machine_of left ls words front closed begun noted old untaken hands) (Begin size)
+      → machine_of left ls words front closed true noted size now hands ≡ after_event ls (machine_of left ls words front closed begun noted old untaken hands) (Begin size)
   begin_is words front closed begun noted old size untaken now hands on is =
       ap (λ u. machine_of left ls words front closed true noted size u hands) is ∙ after_on ls (machine_of left ls words front closed begun noted old untaken hands) (Begin size) on
 
   pub take_is : (words front : List ℕ) (closed : ℕ) (begun : Bool) (noted : List ℕ) (size : ℕ) (untaken : List Bool) (hands : List (Option (Hand C))) (w b : ℕ) (hand : Hand C)
       → is_enabled (machine_of left ls words front closed begun noted size untaken hands) (Take w b) ≡ true
       → hand_moves left ls front hand ≡ moves_in ls (batch_of front size b)
-      → machine_of left ls words front closed begun noted size (set untaken b false) (set hands w (Some hand)) ≡ after ls (machine_of left ls words front closed begun noted size untaken hands) (Take w b)
+      → machine_of left ls words front closed begun noted size (set untaken b false) (set hands w (Some hand)) ≡ after_event ls (machine_of left ls words front closed begun noted size untaken hands) (Take w b)
   take_is words front closed begun noted size untaken hands w b hand on is =
       ap (λ h. record (machine_of left ls words front closed begun noted size (set untaken b false) hands) { hands = h })
       (map-set (hand_view left ls front) hands w (Some hand) ∙ ap (λ l. set (map (hand_view left ls front) hands) w (Some l)) is)
@@ -176,7 +176,7 @@ module _ {C : Type 0} (left : C → List ℕ) (ls : List (List ℕ)) where
   pub let_go_is : (words front : List ℕ) (closed : ℕ) (begun : Bool) (noted : List ℕ) (size : ℕ) (untaken : List Bool) (hands : List (Option (Hand C))) (w : ℕ) (held now : Option (Hand C))
       → is_enabled (machine_of left ls words front closed begun noted size untaken hands) (Relax w) ≡ true
       → slice_get hands w ≡ Some held → (moves_held (hand_view left ls front held) ≡ []) × (now ≡ None)
-      → machine_of left ls words front closed begun noted size untaken (set hands w now) ≡ after ls (machine_of left ls words front closed begun noted size untaken hands) (Relax w)
+      → machine_of left ls words front closed begun noted size untaken (set hands w now) ≡ after_event ls (machine_of left ls words front closed begun noted size untaken hands) (Relax w)
   let_go_is words front closed begun noted size untaken hands w held now on has none =
       let busy = busy_view front hands w held has on in
       let is : slice_get (map (hand_view left ls front) hands) w ≡ Some (Some []) = busy.2 ∙ ap (λ l. Some (Some l)) (sym (ap moves_held busy.1) ∙ none.0) in
@@ -188,7 +188,7 @@ module _ {C : Type 0} (left : C → List ℕ) (ls : List (List ℕ)) where
       → is_enabled (machine_of left ls words front closed begun noted size untaken hands) (Relax w) ≡ true
       → slice_get hands w ≡ Some held → NextMove (hand_view left ls front held) (hand_view left ls front now) s t
       → lower ≡ lowered words t (moved closed s) → more ≡ noted_with noted t (get_or words t 0)
-      → machine_of left ls lower front closed begun more size untaken (set hands w now) ≡ after ls (machine_of left ls words front closed begun noted size untaken hands) (Relax w)
+      → machine_of left ls lower front closed begun more size untaken (set hands w now) ≡ after_event ls (machine_of left ls words front closed begun noted size untaken hands) (Relax w)
   move_is words front closed begun noted size untaken hands w s t held now lower more on has next lower_is more_is =
       let is : slice_get (map (hand_view left ls front) hands) w ≡ Some (Some (record { source = s; target = t } ∷ next.0)) = view_at left ls front hands w held has ∙ ap Some next.1 in
       ap (λ x. machine_of left ls x front closed begun more size untaken (set hands w now)) lower_is
@@ -201,7 +201,7 @@ module _ {C : Type 0} (left : C → List ℕ) (ls : List (List ℕ)) where
   pub close_is : (words front : List ℕ) (closed : ℕ) (begun : Bool) (noted : List ℕ) (size : ℕ) (untaken : List Bool) (hands : List (Option (Hand C))) (next none : List ℕ)
       → is_enabled (machine_of left ls words front closed begun noted size untaken hands) Close ≡ true
       → next ≡ sorted noted → none ≡ []
-      → machine_of left ls words next (closed + 1) false none size untaken hands ≡ after ls (machine_of left ls words front closed begun noted size untaken hands) Close
+      → machine_of left ls words next (closed + 1) false none size untaken hands ≡ after_event ls (machine_of left ls words front closed begun noted size untaken hands) Close
   close_is words front closed begun noted size untaken hands next none on next_is none_is =
       ap (λ h. record (machine_of left ls words next (closed + 1) false none size untaken hands) { hands = h }) (free_same left ls front next hands free)
       ∙ ap (λ x. record (machine_of left ls words front (closed + 1) false none size untaken hands) { front = x }) next_is
@@ -212,5 +212,5 @@ module _ {C : Type 0} (left : C → List ℕ) (ls : List (List ℕ)) where
       free = sym (free_view left ls front hands) ∙ (close_parts (machine_of left ls words front closed begun noted size untaken hands) on).1
 
 -- and how callers see it
-pub made : (o : ℕ) (ls : List (List ℕ)) (m n : Machine) (e : Event) → n ≡ after ls m e → viewed o ls n ≡ stepped (viewed o ls m) e
+pub made : (o : ℕ) (ls : List (List ℕ)) (m n : Machine) (e : Event) → n ≡ after_event ls m e → viewed o ls n ≡ stepped (viewed o ls m) e
 made o ls m n e is = ap (viewed o ls) is

@@ -3,7 +3,7 @@ use Rattle.std.specs.Prelude.{◌≡◌, ℕ, ◌<◌, Bool, List, [], ◌∷◌
 use Rattle.round_core.specs.declared.event.Event.{Event}
 use Rattle.round_core.specs.declared.hand.Hand.{Hand}
 use Rattle.round_core.specs.Rounds.{Has}
-use Rattle.round_core.specs.Machines.{Move, Machine, moves_from, moves_in, after, run, opening}
+use Rattle.round_core.specs.Machines.{Move, Machine, moves_from, moves_in, after_event, run, opening}
 
 -- a machine with its graph, as callers see it
 pub record RoundView : Type 0 where
@@ -11,9 +11,9 @@ pub record RoundView : Type 0 where
   pub lists : List (List ℕ)
   pub now : Machine
 
--- the machine after the event
+-- the machine after_event the event
 abbrev pub stepped : RoundView → Event → RoundView
-stepped v e = record { origin = v.origin; lists = v.lists; now = after v.lists v.now e }
+stepped v e = record { origin = v.origin; lists = v.lists; now = after_event v.lists v.now e }
 
 -- some schedule leads to this machine
 abbrev pub IsReached : ℕ → List (List ℕ) → Machine → Type 0
@@ -58,4 +58,4 @@ moves_held (Some moves) = moves
 
 -- the first of the moves that were held goes from source to target, and the others are still held
 abbrev pub NextMove : Option (List Move) → Option (List Move) → ℕ → ℕ → Type 0
-NextMove before after source target = (rest : List Move) × (before ≡ Some (record { source = source; target = target } ∷ rest)) × (after ≡ Some rest)
+NextMove before after_event source target = (rest : List Move) × (before ≡ Some (record { source = source; target = target } ∷ rest)) × (after_event ≡ Some rest)

@@ -1,5 +1,5 @@
 pub mod Rounds
 pub mod Searches
-pub mod InRounds
 pub mod Machines
 pub mod Hands
+pub mod inside

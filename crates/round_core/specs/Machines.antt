@@ -4,7 +4,7 @@ use Rattle.std.specs.Prelude.{ℕ, ◌+◌, ◌-◌, ◌*◌, ◌/◌, ◌<◌, 
 use Rattle.graph_rules.specs.Graphs.{row, HasTarget, moved, unreached}
 use Rattle.round_core.specs.declared.event.Event.{Event}
 use Rattle.round_core.specs.declared.event.Event.TheVariants.{Begin, Take, Relax, Close}
-use Rattle.round_core.specs.Rounds.{IsBetween, IsFrontier, AreRising}
+use Rattle.round_core.specs.Rounds.{IsBetween, IsFrontier, AreRisingNumbers}
 
 -- one move of a walk
 pub record Move : Type 0 where
@@ -111,14 +111,14 @@ does lists m (Relax worker) = relaxes m worker (slice_get m.hands worker)
 does lists m Close = record m { front = sorted m.noted; closed = m.closed + 1; begun = false; noted = [] }
 
 -- an event that isn't enabled changes nothing
-abbrev pub after : List (List ℕ) → Machine → Event → Machine
-after lists m e = cond (is_enabled m e) (does lists m e) m
+abbrev pub after_event : List (List ℕ) → Machine → Event → Machine
+after_event lists m e = cond (is_enabled m e) (does lists m e) m
 
 -- ---- schedules
 
 abbrev pub run : List (List ℕ) → Machine → List Event → Machine
 run lists m [] = m
-run lists m (e ∷ es) = run lists (after lists m e) es
+run lists m (e ∷ es) = run lists (after_event lists m e) es
 
 -- the start alone is found, and it is the frontier
 abbrev pub opening : ℕ → List (List ℕ) → ℕ → Machine
@@ -144,4 +144,4 @@ pub record IsGraph (origin : ℕ) (lists : List (List ℕ)) : Type 0 where
 pub record IsBetweenRounds (origin : ℕ) (lists : List (List ℕ)) (m : Machine) : Type 0 where
   pub words : IsBetween origin lists m.closed m.words
   pub front : IsFrontier origin lists m.closed m.front
-  pub rising : AreRising m.front
+  pub rising : AreRisingNumbers m.front

@@ -5,9 +5,9 @@
 --     IsFar origin lists k s w            s is farther than k, and w is the word of a number that nothing was found of
 --     IsBetween origin lists k words      each word is near or far: all that is at most k moves away is settled, the rest untouched
 --     IsFrontier origin lists k front     the list has the numbers at the least distance k and no others
---     AreRising xs                        each number of the list is less than all later ones
+--     AreRisingNumbers xs                        each number of the list is less than all later ones
 use Rattle.std.specs.Prelude.{◌≡◌, ℕ, ◌≤◌, ◌<◌, ◌⊎◌, List, [], ◌∷◌, length, slice_get, slice_index, Some}
-use Rattle.graph_rules.specs.Graphs.{Reaches, IsBest, IsSettled, unreached}
+use Rattle.graph_rules.specs.Graphs.{Reaches, IsBest, IsSettledWord, unreached}
 
 abbrev pub Has : List ℕ → ℕ → Type 0
 Has xs s = (i : ℕ) × (slice_get xs i ≡ Some s)
@@ -19,7 +19,7 @@ pub record IsNear (origin : ℕ) (lists : List (List ℕ)) (k s w : ℕ) : Type 
   pub n : ℕ
   pub within : n ≤ k
   pub best : IsBest origin lists s n
-  pub settled : IsSettled origin lists s w
+  pub settled : IsSettledWord origin lists s w
 
 pub record IsFar (origin : ℕ) (lists : List (List ℕ)) (k s w : ℕ) : Type 0 where
   pub beyond : IsBeyond origin lists k s
@@ -33,6 +33,6 @@ pub record IsFrontier (origin : ℕ) (lists : List (List ℕ)) (k : ℕ) (front 
   pub best : (s : ℕ) → Has front s → (s < length lists) × IsBest origin lists s k
   pub all : (s : ℕ) → s < length lists → IsBest origin lists s k → Has front s
 
-abbrev pub AreRising : List ℕ → Type 0
-AreRising [] = Unit {0}
-AreRising (x ∷ xs) = ((y : ℕ) → Has xs y → x < y) × AreRising xs
+abbrev pub AreRisingNumbers : List ℕ → Type 0
+AreRisingNumbers [] = Unit {0}
+AreRisingNumbers (x ∷ xs) = ((y : ℕ) → Has xs y → x < y) × AreRisingNumbers xs

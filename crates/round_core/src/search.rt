@@ -1,6 +1,6 @@
 //! The search by rounds on one thread: breadth first, with the least source of each number instead of the first one.
 ghost use Rattle.std.specs.Prelude.{◌≡◌, ◌+◌, ◌*◌, ◌<◌, ◌≤◌, length, take, IfOk};
-ghost use Rattle.round_core.specs.InRounds.{IsReady, moves_of};
+ghost use Rattle.round_core.specs.inside.InRounds.{IsReady, moves_of};
 ghost use Rattle.round_core.specs.Searches.{IsSearched};
 
 use crate::settled::Settled;

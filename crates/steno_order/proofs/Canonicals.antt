@@ -4,7 +4,7 @@ use Rattle.std.specs.Prelude.{◌&&◌, ◌==◌, nat_lt, sum_by, not, if◌then
 use Rattle.std.proofs.lemmas.List.{map-append}
 use Rattle.std.proofs.lemmas.List.Sums.{sum_by-cons}
 use Rattle.std.proofs.lemmas.Bool.{lt-ltb}
-use Rattle.steno_order.specs.Keys.{has, code_of, has_bar, hyphen, bar}
+use Rattle.steno_order.specs.Keys.{has, keys_code, has_bar, hyphen, bar}
 use Rattle.steno_order.specs.Spelling.{Press, chars_of, keys_of, last_key, Spelling}
 use Rattle.steno_order.specs.Canonical.{keys_from, mark, bar_text, hyphen_text, canonical}
 use Rattle.steno_order.specs.Reading.{stroke_of}
@@ -15,10 +15,10 @@ use Rattle.steno_order.proofs.Marks.{pressing, chars_same, keys_same, chain_keys
 use Rattle.steno_order.proofs.Bars.{cut_22, has_digit, bar_is}
 
 -- the code is that of its keys
-code_is : (code : ℕ) → code < 2 ^ 23 → code ≡ code_of (has_bar (canonical code)) (keys_from code 1 12 ++ keys_from code 13 10)
-code_is code lt = sym (ap (λ ks. code_of (has_bar (canonical code)) ks) (sym (cut_22 code)) ∙ (ap (λ b. code_of b (keys_from code 1 22)) (bar_is code) ∙ by (has code 0) (keys_sum code lt)))
+code_is : (code : ℕ) → code < 2 ^ 23 → code ≡ keys_code (has_bar (canonical code)) (keys_from code 1 12 ++ keys_from code 13 10)
+code_is code lt = sym (ap (λ ks. keys_code (has_bar (canonical code)) ks) (sym (cut_22 code)) ∙ (ap (λ b. keys_code b (keys_from code 1 22)) (bar_is code) ∙ by (has code 0) (keys_sum code lt)))
   where
-    by : (b : Bool) → sum_by (λ key. 2 ^ key) (cond b (0 ∷ keys_from code 1 22) (keys_from code 1 22)) ≡ code → code_of b (keys_from code 1 22) ≡ code
+    by : (b : Bool) → sum_by (λ key. 2 ^ key) (cond b (0 ∷ keys_from code 1 22) (keys_from code 1 22)) ≡ code → keys_code b (keys_from code 1 22) ≡ code
     by true sum = let first = sum_by-cons (λ key. 2 ^ key) 0 (keys_from code 1 22) in omega (arith, first, sum)
     by false sum = omega (arith, sum)
 
@@ -54,7 +54,7 @@ with_hyphen code pos lt h = record {
   hyphen_or_none = inr (refl, low_all code 1 12 (omega arith));
   keys_before = chain-ArePressed 0 1 (lefts code) (left_chain code);
   keys_after = chain-ArePressed (last_key 0 (lefts code)) 11 (rights code) (chain_keys code (last_key 0 (lefts code)) 11 13 10 (omega arith) (omega arith) (left_last code) (omega arith) (inr (inr (omega arith))));
-  stroke = code_is code lt ∙ ap (code_of (has_bar (canonical code))) (ap (λ l. l ++ keys_from code 13 10) (sym (keys_same code (keys_from code 1 12))) ∙ (ap (λ l. keys_of (lefts code) ++ l) (sym (keys_same code (keys_from code 13 10))) ∙ sym (map-append (λ p. p.key) (lefts code) (rights code))));
+  stroke = code_is code lt ∙ ap (keys_code (has_bar (canonical code))) (ap (λ l. l ++ keys_from code 13 10) (sym (keys_same code (keys_from code 1 12))) ∙ (ap (λ l. keys_of (lefts code) ++ l) (sym (keys_same code (keys_from code 13 10))) ∙ sym (map-append (λ p. p.key) (lefts code) (rights code))));
   some_key = pos;
 }
 
@@ -85,7 +85,7 @@ without_hyphen code pos lt no_test h = record {
   hyphen_or_none = inl (refl, refl);
   keys_before = chain-ArePressed 0 1 (lefts code ++ rights code) (chain-append 0 1 (lefts code) (rights code) (left_chain code) (right_chain code no_test));
   keys_after = chain-ArePressed (last_key 0 (lefts code ++ rights code)) 11 [] tt;
-  stroke = code_is code lt ∙ ap (code_of (has_bar (canonical code))) (ap (λ l. l ++ keys_from code 13 10) (sym (keys_same code (keys_from code 1 12))) ∙ (ap (λ l. keys_of (lefts code) ++ l) (sym (keys_same code (keys_from code 13 10))) ∙ (sym (map-append (λ p. p.key) (lefts code) (rights code)) ∙ ap keys_of (sym (append-nil (lefts code ++ rights code))))));
+  stroke = code_is code lt ∙ ap (keys_code (has_bar (canonical code))) (ap (λ l. l ++ keys_from code 13 10) (sym (keys_same code (keys_from code 1 12))) ∙ (ap (λ l. keys_of (lefts code) ++ l) (sym (keys_same code (keys_from code 13 10))) ∙ (sym (map-append (λ p. p.key) (lefts code) (rights code)) ∙ ap keys_of (sym (append-nil (lefts code ++ rights code))))));
   some_key = pos;
 }
 

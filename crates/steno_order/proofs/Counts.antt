@@ -5,7 +5,7 @@ use Rattle.std.specs.List.{join_with_byte}
 use Rattle.std.proofs.lemmas.List.Splits.{join_with_byte-slice_split}
 use Rattle.steno_order.specs.Keys.{slash}
 use Rattle.steno_order.specs.Spelling.{parts_of}
-use Rattle.steno_order.specs.Reading.{all_some, stroke_of, strokes_of}
+use Rattle.steno_order.specs.Reading.{all_some, stroke_of, spelt_strokes}
 
 -- the empty text spells no stroke
 some_char : (part : List ℕ) (stroke : ℕ) → stroke_of part ≡ Some stroke → 1 ≤ length part
@@ -32,5 +32,5 @@ parts-fit (part ∷ parts) strokes is = by (stroke_of part) (all_some (map strok
         let tail : length ss ≤ length (join_with_byte slash parts) = tails ss others in
         omega (arith, ap length all, some_char part s one, tail, joined part parts)
 
-pub strokes-fit : (text strokes : List ℕ) → strokes_of text ≡ Some strokes → length strokes ≤ length text
+pub strokes-fit : (text strokes : List ℕ) → spelt_strokes text ≡ Some strokes → length strokes ≤ length text
 strokes-fit text strokes is = subst (λ (t : List ℕ). length strokes ≤ length t) (join_with_byte-slice_split slash text) (parts-fit (parts_of text) strokes is)

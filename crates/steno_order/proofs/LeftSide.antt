@@ -13,7 +13,7 @@ use Rattle.text_rules.proofs.Splits.{some_part}
 use Rattle.steno_order.specs.declared.pressed.Pressed.{Pressed}
 use Rattle.steno_order.specs.Keys.{hyphen, bar, has_bar}
 use Rattle.steno_order.specs.Reading.{first_key, last_of, pressed, with_right, some_code}
-use Rattle.steno_order.specs.Steps.{next_key_of, divided, with_key, after, spelt_from}
+use Rattle.steno_order.specs.inside.Steps.{next_key_of, divided, with_key, after_character, spelt_from}
 use Rattle.steno_order.proofs.Presses.{pressed-chain}
 use Rattle.steno_order.proofs.Spellings.{unsplit}
 use Rattle.steno_order.proofs.Codes.{bit}
@@ -53,7 +53,7 @@ left_more left last sum key h rises =
 
 abbrev pub keys_after : List ℕ → ℕ → List (List ℕ) → Option (List ℕ)
 keys_after left last (whole ∷ []) = option_map (λ keys. left ++ keys) (pressed last 1 whole)
-keys_after left last (before ∷ after ∷ []) = option_and_then (λ keys. with_right after (left ++ keys)) (pressed last 1 before)
+keys_after left last (before ∷ after_character ∷ []) = option_and_then (λ keys. with_right after_character (left ++ keys)) (pressed last 1 before)
 keys_after left last parts = None
 
 abbrev pub spelt_left : Bool → List ℕ → List ℕ → Option ℕ
@@ -79,7 +79,7 @@ joined_keys keys cs sum b sums (Some r) =
     let same : sum + sum_by weight r ≡ sum_by weight (keys ++ r) = omega (arith, all, sums) in
     ap (λ s. some_code (s + bit (b || has_bar cs))) same
 
--- the state after the hyphen
+-- the state after_character the hyphen
 holds_right : (code next last sum : ℕ) (b : Bool) → HasPressed code next last 1 sum b → HasPressed code (max next 11) last 11 sum b
 holds_right code next last sum b h =
     let from = h.from in

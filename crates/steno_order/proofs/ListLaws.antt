@@ -12,8 +12,8 @@ use Rattle.steno_order.specs.declared.pressed.Pressed.{Pressed}
 use Rattle.steno_order.specs.Keys.{has, slash}
 use Rattle.steno_order.specs.Canonical.{keys_from, mark, needs_bar, needs_hyphen, bar_text, hyphen_text, canonical, canonical_text}
 use Rattle.steno_order.specs.Spelling.{Spelling, SpellingOfAll, parts_of}
-use Rattle.steno_order.specs.Reading.{readings, all_some, strokes_of, unreadable_part}
-use Rattle.steno_order.specs.Steps.{after, stroke_with, spelt_from}
+use Rattle.steno_order.specs.Reading.{readings, all_some, spelt_strokes, unreadable_part}
+use Rattle.steno_order.specs.inside.Steps.{after_character, stroke_with, spelt_from}
 use Rattle.steno_order.proofs.Ranges.{both}
 use Rattle.steno_order.proofs.Spellings.{Spelling-stroke}
 use Rattle.steno_order.proofs.Steps.{nothing, stroke_of-steps}
@@ -32,7 +32,7 @@ with-IsStroke n code e = by (nat_lt 0 n && nat_lt n (2 ^ 23)) refl e
 
 from-IsStroke : (p : Pressed) (text : List ℕ) (code : ℕ) → spelt_from p text ≡ Some code → IsStroke code
 from-IsStroke p [] code e = with-IsStroke p.code code e
-from-IsStroke p (c ∷ cs) code e = by (after p c) e (λ q. from-IsStroke q cs code)
+from-IsStroke p (c ∷ cs) code e = by (after_character p c) e (λ q. from-IsStroke q cs code)
   where
     by : (o : Option Pressed) → option_and_then (λ q. spelt_from q cs) o ≡ Some code → ((q : Pressed) → spelt_from q cs ≡ Some code → IsStroke code) → IsStroke code
     by None e rec = absurd (true≢false cc)
@@ -80,11 +80,11 @@ some_none [] lt = absurd (omega arith)
 some_none (None ∷ os) lt = refl
 some_none (Some x ∷ os) lt = rw (some_none os (omega arith)) refl
 
-pub strokes_of-none : (text : List ℕ) → strokes_of text ≡ None → (part : ℕ) × (unreadable_part text ≡ Some part)
-strokes_of-none text e = let lt = first_none (readings text) e in (position_or_len is_none (readings text), rw (lt-ltb (position_or_len is_none (readings text)) (length (readings text)) lt) refl)
+pub spelt_strokes-none : (text : List ℕ) → spelt_strokes text ≡ None → (part : ℕ) × (unreadable_part text ≡ Some part)
+spelt_strokes-none text e = let lt = first_none (readings text) e in (position_or_len is_none (readings text), rw (lt-ltb (position_or_len is_none (readings text)) (length (readings text)) lt) refl)
 
-pub none-strokes_of : (text : List ℕ) (part : ℕ) → unreadable_part text ≡ Some part → strokes_of text ≡ None
-none-strokes_of text part e = some_none (readings text) (by (nat_lt (position_or_len is_none (readings text)) (length (readings text))) refl e)
+pub none-spelt_strokes : (text : List ℕ) (part : ℕ) → unreadable_part text ≡ Some part → spelt_strokes text ≡ None
+none-spelt_strokes text part e = some_none (readings text) (by (nat_lt (position_or_len is_none (readings text)) (length (readings text))) refl e)
   where
     by : (b : Bool) → nat_lt (position_or_len is_none (readings text)) (length (readings text)) ≡ b → cond b (Some (position_or_len is_none (readings text))) None ≡ Some part → position_or_len is_none (readings text) < length (readings text)
     by true is e = ltb-true (position_or_len is_none (readings text)) (length (readings text)) is
@@ -95,7 +95,7 @@ pub canonical_text-spells : (strokes : List ℕ) → 0 < length strokes → All 
 canonical_text-spells [] pos h = absurd (omega arith)
 canonical_text-spells (s ∷ ss) pos h = canonical-SpellingOfAll s ss (recursion_from_All IsStroke (s ∷ ss) h)
 
-pub canonical_text-back : (strokes : List ℕ) → 0 < length strokes → All IsStroke strokes → strokes_of (canonical_text strokes) ≡ Some strokes
+pub canonical_text-back : (strokes : List ℕ) → 0 < length strokes → All IsStroke strokes → spelt_strokes (canonical_text strokes) ≡ Some strokes
 canonical_text-back strokes pos h = SpellingOfAll-strokes (canonical_text strokes) strokes (canonical_text-spells strokes pos h)
 
 -- its length

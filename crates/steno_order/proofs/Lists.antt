@@ -10,7 +10,7 @@ use Rattle.steno_rules.specs.Outlines.{IsStroke}
 use Rattle.steno_order.specs.Keys.{is_written, slash, hyphen, bar}
 use Rattle.steno_order.specs.Spelling.{Press, chars_of, last_key, Spelling, SpellingOfAll, parts_of}
 use Rattle.steno_order.specs.Canonical.{canonical, canonical_text}
-use Rattle.steno_order.specs.Reading.{stroke_of, all_some, strokes_of}
+use Rattle.steno_order.specs.Reading.{stroke_of, all_some, spelt_strokes}
 use Rattle.steno_order.proofs.Ranges.{tested}
 use Rattle.steno_order.proofs.Presses.{below_23, false_or_true, Chain, ArePressed-chain}
 use Rattle.steno_order.proofs.Spellings.{not_of, Spelling-stroke, stroke-Spelling}
@@ -34,10 +34,10 @@ parts-all (p ∷ ps) strokes e = by (stroke_of p) refl (all_some (map stroke_of 
     by (Some s) is None iss e rec = absurd (true≢false cc)
     by (Some s) is (Some ss) iss e rec = let same : s ∷ ss ≡ strokes = cc in subst (λ l. AllZip Spelling (p ∷ ps) l) same (stroke-Spelling p s is, rec ss iss)
 
-pub SpellingOfAll-strokes : (text : List ℕ) (strokes : List ℕ) → SpellingOfAll text strokes → strokes_of text ≡ Some strokes
+pub SpellingOfAll-strokes : (text : List ℕ) (strokes : List ℕ) → SpellingOfAll text strokes → spelt_strokes text ≡ Some strokes
 SpellingOfAll-strokes text strokes h = all-parts (parts_of text) strokes h
 
-pub strokes-SpellingOfAll : (text : List ℕ) (strokes : List ℕ) → strokes_of text ≡ Some strokes → SpellingOfAll text strokes
+pub strokes-SpellingOfAll : (text : List ℕ) (strokes : List ℕ) → spelt_strokes text ≡ Some strokes → SpellingOfAll text strokes
 strokes-SpellingOfAll text strokes e = parts-all (parts_of text) strokes e
 
 pub SpellingOfAll-unique : (text : List ℕ) (xs ys : List ℕ) → SpellingOfAll text xs → SpellingOfAll text ys → xs ≡ ys

@@ -7,7 +7,7 @@ use Rattle.steno_rules.specs.Outlines.{IsStroke}
 use Rattle.steno_order.specs.declared.pressed.Pressed.{Pressed}
 use Rattle.steno_order.specs.Keys.{slash}
 use Rattle.steno_order.specs.Reading.{readings}
-use Rattle.steno_order.specs.Steps.{after, stroke_with, spelt_from, readings_from}
+use Rattle.steno_order.specs.inside.Steps.{after_character, stroke_with, spelt_from, readings_from}
 use Rattle.steno_order.proofs.Ranges.{both}
 use Rattle.steno_order.proofs.Parts.{readings-slash, readings-step, readings-none}
 
@@ -24,10 +24,10 @@ stroke_is None code h = by (nat_lt 0 code && nat_lt code (2 ^ 23)) refl
 stroke_is (Some x) code h = rw (lt-ltb 0 code h.0.0, lt-ltb code (2 ^ 23) h.0.1, h.1) refl
 
 -- one character of a stroke's text
-pub spelt_more : (p q : Pressed) (bytes : List ℕ) (i : ℕ) → i < length bytes → after p (get_or bytes i 0) ≡ Some q → spelt_from p (drop i bytes) ≡ spelt_from q (drop (i + 1) bytes)
+pub spelt_more : (p q : Pressed) (bytes : List ℕ) (i : ℕ) → i < length bytes → after_character p (get_or bytes i 0) ≡ Some q → spelt_from p (drop i bytes) ≡ spelt_from q (drop (i + 1) bytes)
 spelt_more p q bytes i lt next = ap (spelt_from p) (next_byte bytes i lt) ∙ ap (option_and_then (λ r. spelt_from r (drop (i + 1) bytes))) next
 
-pub spelt_refused : (p : Pressed) (bytes : List ℕ) (i : ℕ) → i < length bytes → after p (get_or bytes i 0) ≡ None → spelt_from p (drop i bytes) ≡ None
+pub spelt_refused : (p : Pressed) (bytes : List ℕ) (i : ℕ) → i < length bytes → after_character p (get_or bytes i 0) ≡ None → spelt_from p (drop i bytes) ≡ None
 spelt_refused p bytes i lt next = ap (spelt_from p) (next_byte bytes i lt) ∙ ap (option_and_then (λ r. spelt_from r (drop (i + 1) bytes))) next
 
 pub spelt_all : (p : Pressed) (bytes : List ℕ) (i : ℕ) → length bytes ≤ i → spelt_from p (drop i bytes) ≡ stroke_with p.code
@@ -38,10 +38,10 @@ refused None A Q e a = a
 refused (Some x) A Q e a = absurd (true≢false cc)
 
 -- one character of a part, and one that ends it
-pub part_more : (p q : Pressed) (bytes : List ℕ) (i : ℕ) → i < length bytes → (get_or bytes i 0 ≡ slash → ⊥) → after p (get_or bytes i 0) ≡ Some q → readings_from p (drop i bytes) ≡ readings_from q (drop (i + 1) bytes)
+pub part_more : (p q : Pressed) (bytes : List ℕ) (i : ℕ) → i < length bytes → (get_or bytes i 0 ≡ slash → ⊥) → after_character p (get_or bytes i 0) ≡ Some q → readings_from p (drop i bytes) ≡ readings_from q (drop (i + 1) bytes)
 part_more p q bytes i lt other next = ap (readings_from p) (next_byte bytes i lt) ∙ readings-step p q (get_or bytes i 0) (drop (i + 1) bytes) (ne_eqb (get_or bytes i 0) slash other) next
 
-pub part_refused : (p : Pressed) (bytes : List ℕ) (i : ℕ) → i < length bytes → (get_or bytes i 0 ≡ slash → ⊥) → after p (get_or bytes i 0) ≡ None → (others : List (Option ℕ)) × (readings_from p (drop i bytes) ≡ None ∷ others)
+pub part_refused : (p : Pressed) (bytes : List ℕ) (i : ℕ) → i < length bytes → (get_or bytes i 0 ≡ slash → ⊥) → after_character p (get_or bytes i 0) ≡ None → (others : List (Option ℕ)) × (readings_from p (drop i bytes) ≡ None ∷ others)
 part_refused p bytes i lt other next =
     let r = readings-none p (get_or bytes i 0) (drop (i + 1) bytes) (ne_eqb (get_or bytes i 0) slash other) next in
     (r.0, ap (readings_from p) (next_byte bytes i lt) ∙ r.1)

@@ -8,7 +8,7 @@ use Rattle.std.proofs.lemmas.Bool.{cases_lt, eqb-true, eq-eqb, ne_eqb}
 use Rattle.std.proofs.lemmas.Nat.Bits.{and_pow, bit_at_and, bit_at-lt, bit_at-zero, same_from_bits_below}
 use Rattle.std.proofs.lemmas.Nat.{pow_pos, and_le_r}
 use Rattle.steno_order.specs.Keys.{has}
-use Rattle.steno_order.specs.Steps.{has_one}
+use Rattle.steno_order.specs.inside.Steps.{has_one}
 use Rattle.steno_order.proofs.Ranges.{both}
 use Rattle.steno_order.proofs.Presses.{false_or_true}
 

@@ -6,7 +6,7 @@ use Rattle.std.specs.Char.{is_ascii_digit}
 use Rattle.std.proofs.lemmas.Bool.{lt-ltb, ne_eqb}
 use Rattle.steno_order.specs.Keys.{has, numbered, letter}
 use Rattle.steno_order.specs.Canonical.{keys_from, mark, needs_bar, needs_hyphen}
-use Rattle.steno_order.specs.Steps.{has_one}
+use Rattle.steno_order.specs.inside.Steps.{has_one}
 use Rattle.steno_order.proofs.Ranges.{tested}
 
 any_filter : (p q : ℕ → Bool) (xs : List ℕ) → list_any p (filter q xs) ≡ list_any (λ x. q x && p x) xs

@@ -8,7 +8,7 @@ use Rattle.std.proofs.lemmas.Bool.{cases_lt, le-leb, lt-leb, ltb-true, eq-eqb, n
 use Rattle.std.proofs.lemmas.Nat.{pow-add}
 use Rattle.std.proofs.lemmas.Nat.Bits.{bit_at_above, bit_at-zero, bit_at-trailing_zeros}
 use Rattle.steno_order.specs.Keys.{is_written, has}
-use Rattle.steno_order.specs.Steps.{has_keys, next_key_of}
+use Rattle.steno_order.specs.inside.Steps.{has_keys, next_key_of}
 use Rattle.steno_order.proofs.Ranges.{both, tested, range_find, range_none}
 
 agree : (w e : Bool) → (if w then e else not e) ≡ true → w ≡ e

@@ -7,7 +7,7 @@ use Rattle.std.proofs.lemmas.List.Sums.{sum_by-cons}
 use Rattle.steno_order.specs.declared.pressed.Pressed.{Pressed}
 use Rattle.steno_order.specs.Keys.{hyphen, bar, has_bar}
 use Rattle.steno_order.specs.Reading.{first_key, pressed, some_code}
-use Rattle.steno_order.specs.Steps.{spelt_from}
+use Rattle.steno_order.specs.inside.Steps.{spelt_from}
 use Rattle.steno_order.proofs.Codes.{bit}
 use Rattle.steno_order.proofs.States.{weight, HasPressed, no_press, step, or_assoc, with_code}
 

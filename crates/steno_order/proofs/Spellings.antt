@@ -7,7 +7,7 @@ use Rattle.std.proofs.lemmas.List.Splits.{join_with_byte-slice_split}
 use Rattle.text_rules.specs.Lines.{parts_between}
 use Rattle.std.proofs.lemmas.Bool.{eqb-true, lt-ltb, ltb-true}
 use Rattle.std.proofs.lemmas.List.Elements.{All-head, All-tail, All-cons}
-use Rattle.steno_order.specs.Keys.{is_written, hyphen, bar, code_of, has_bar}
+use Rattle.steno_order.specs.Keys.{is_written, hyphen, bar, keys_code, has_bar}
 use Rattle.steno_order.specs.Spelling.{Press, chars_of, keys_of, last_key, IsFirstKey, Spelling}
 use Rattle.steno_order.specs.Reading.{pressed, last_of, with_right, keys_in, without_bar, some_code, stroke_of}
 use Rattle.steno_order.proofs.Ranges.{tested, both}
@@ -98,7 +98,7 @@ Spelling-stroke text code s =
     let a = ArePressed-chain (last_key 0 s.before) 11 s.after s.keys_after in
     let none = ap without_bar s.whole ∙ barless s.first s.before s.middle s.after s.bar_or_none s.hyphen_or_none b in
     let keys = ap (λ body. keys_in (parts_between hyphen body)) none ∙ body_keys s.before s.middle s.after s.hyphen_or_none b a in
-    ap (λ o. option_and_then (λ ks. some_code (code_of (has_bar text) ks)) o) keys ∙ coded code (code_of (has_bar text) (keys_of (s.before ++ s.after))) s.stroke s.some_key
+    ap (λ o. option_and_then (λ ks. some_code (keys_code (has_bar text) ks)) o) keys ∙ coded code (keys_code (has_bar text) (keys_of (s.before ++ s.after))) s.stroke s.some_key
 
 -- back
 low_presses : (ps : List Press) → list_all (λ key. nat_lt key 13) (keys_of ps) ≡ true → All (λ p. p.key < 13) ps
@@ -178,12 +178,12 @@ some_coded n code e = by (nat_lt 0 n) refl e
 pub stroke-Spelling : (text : List ℕ) (code : ℕ) → stroke_of text ≡ Some code → Spelling text code
 stroke-Spelling text code e = by (keys_in (parts_between hyphen (without_bar text))) refl e
   where
-    by : (o : Option (List ℕ)) → keys_in (parts_between hyphen (without_bar text)) ≡ o → option_and_then (λ keys. some_code (code_of (has_bar text) keys)) o ≡ Some code → Spelling text code
+    by : (o : Option (List ℕ)) → keys_in (parts_between hyphen (without_bar text)) ≡ o → option_and_then (λ keys. some_code (keys_code (has_bar text) keys)) o ≡ Some code → Spelling text code
     by None is e = absurd (true≢false cc)
     by (Some keys) is e =
         let b = body_back (without_bar text) keys (parts_between hyphen (without_bar text)) refl is in
         let t = barred_text text in
-        let c = some_coded (code_of (has_bar text) keys) code e in
+        let c = some_coded (keys_code (has_bar text) keys) code e in
         record {
           first = t.0;
           before = b.before;
@@ -194,7 +194,7 @@ stroke-Spelling text code e = by (keys_in (parts_between hyphen (without_bar tex
           hyphen_or_none = b.hyphen_or_none;
           keys_before = chain-ArePressed 0 1 b.before b.chain_before;
           keys_after = chain-ArePressed (last_key 0 b.before) 11 b.after b.chain_after;
-          stroke = c.0 ∙ ap (code_of (has_bar text)) b.all_keys;
+          stroke = c.0 ∙ ap (keys_code (has_bar text)) b.all_keys;
           some_key = c.1;
         }
 

@@ -9,7 +9,7 @@ use Rattle.std.proofs.lemmas.Bool.{cases_lt, le-leb, lt-leb, lt-ltb, ltb-true}
 use Rattle.steno_order.specs.declared.pressed.Pressed.{Pressed}
 use Rattle.steno_order.specs.Keys.{is_written, hyphen, bar}
 use Rattle.steno_order.specs.Reading.{first_key, some_code}
-use Rattle.steno_order.specs.Steps.{next_key_of, with_key, stroke_with}
+use Rattle.steno_order.specs.inside.Steps.{next_key_of, with_key, stroke_with}
 use Rattle.steno_order.proofs.Ranges.{find_same}
 use Rattle.steno_order.proofs.Presses.{below_23, false_or_true, first_key-is}
 use Rattle.steno_order.proofs.Spellings.{not_bar}

@@ -5,9 +5,9 @@ use Rattle.std.specs.Char.{is_ascii_digit}
 use Rattle.std.proofs.lemmas.Bool.{le-leb, eqb-true, eq-eqb, ne_eqb}
 use Rattle.text_rules.specs.Lines.{parts_between}
 use Rattle.steno_order.specs.declared.pressed.Pressed.{Pressed}
-use Rattle.steno_order.specs.Keys.{is_written, hyphen, bar, has_bar, code_of}
+use Rattle.steno_order.specs.Keys.{is_written, hyphen, bar, has_bar, keys_code}
 use Rattle.steno_order.specs.Reading.{pressed, keys_in, some_code, stroke_of}
-use Rattle.steno_order.specs.Steps.{next_key_of, divided, with_key, after, spelt_from}
+use Rattle.steno_order.specs.inside.Steps.{next_key_of, divided, with_key, after_character, spelt_from}
 use Rattle.steno_order.proofs.Ranges.{find_same}
 use Rattle.steno_order.proofs.Codes.{bit}
 use Rattle.steno_order.proofs.LeftSide.{keys_after, spelt_left, left}
@@ -35,7 +35,7 @@ abbrev pub nothing : Pressed
 nothing = record { code = 0; next = 0; hyphen = false }
 
 -- where the first character is no bar, it may as well press a key from 1 on
-first_after : (c : ℕ) → (c == bar) ≡ false → after nothing c ≡ after (begun false) c
+first_after : (c : ℕ) → (c == bar) ≡ false → after_character nothing c ≡ after_character (begun false) c
 unfolding next_key_of
 first_after c isnt = by (c == hyphen)
   where
@@ -58,6 +58,6 @@ pub stroke_of-steps : (text : List ℕ) → stroke_of text ≡ spelt_from nothin
 stroke_of-steps [] = refl
 stroke_of-steps (c ∷ cs) = by (c == bar) refl
   where
-    by : (t : Bool) → (c == bar) ≡ t → option_and_then (λ keys. some_code (code_of ((t || is_ascii_digit c) || has_bar cs) keys)) (keys_in (parts_between hyphen (if t then cs else (c ∷ cs)))) ≡ spelt_from nothing (c ∷ cs)
+    by : (t : Bool) → (c == bar) ≡ t → option_and_then (λ keys. some_code (keys_code ((t || is_ascii_digit c) || has_bar cs) keys)) (keys_in (parts_between hyphen (if t then cs else (c ∷ cs)))) ≡ spelt_from nothing (c ∷ cs)
     by true is = sym (ap (λ d. spelt_from nothing (d ∷ cs)) (eqb-true c bar is) ∙ (at_bar cs ∙ from_begun true cs))
-    by false isnt = sym (ap (λ o. option_and_then (λ q. spelt_from q cs) o) (first_after c isnt) ∙ (from_begun false (c ∷ cs) ∙ ap (λ t. option_and_then (λ keys. some_code (code_of ((t || is_ascii_digit c) || has_bar cs) keys)) (keys_in (parts_between hyphen (c ∷ cs)))) isnt))
+    by false isnt = sym (ap (λ o. option_and_then (λ q. spelt_from q cs) o) (first_after c isnt) ∙ (from_begun false (c ∷ cs) ∙ ap (λ t. option_and_then (λ keys. some_code (keys_code ((t || is_ascii_digit c) || has_bar cs) keys)) (keys_in (parts_between hyphen (c ∷ cs)))) isnt))

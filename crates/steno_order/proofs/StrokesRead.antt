@@ -6,8 +6,8 @@ use Rattle.std.specs.Option.{is_none}
 use Rattle.std.specs.List.{position_or_len}
 use Rattle.std.proofs.lemmas.Bool.{lt-ltb}
 use Rattle.std.proofs.lemmas.List.{length-map, length-append, map-append, take_more_set, length-set}
-use Rattle.steno_order.specs.Reading.{readings, all_some, strokes_of, unreadable_part}
-use Rattle.steno_order.specs.Steps.{readings_left}
+use Rattle.steno_order.specs.Reading.{readings, all_some, spelt_strokes, unreadable_part}
+use Rattle.steno_order.specs.inside.Steps.{readings_left}
 
 -- more than the length of the text that is left, if one is left
 abbrev pub room : Option (List ℕ) → ℕ
@@ -34,7 +34,7 @@ all_some-map : (strokes : List ℕ) → all_some (map Some strokes) ≡ Some str
 all_some-map [] = refl
 all_some-map (s ∷ ss) = rw (all_some-map ss) refl
 
-pub all_read : (text strokes : List ℕ) → IsRead text strokes None → strokes_of text ≡ Some strokes
+pub all_read : (text strokes : List ℕ) → IsRead text strokes None → spelt_strokes text ≡ Some strokes
 all_read text strokes h = ap all_some (h.whole ∙ append-nil (map Some strokes)) ∙ all_some-map strokes
 
 all_some-none : (strokes : List ℕ) (others : List (Option ℕ)) → all_some (map Some strokes ++ None ∷ others) ≡ None
@@ -42,7 +42,7 @@ all_some-none [] others = refl
 all_some-none (s ∷ ss) others = rw (all_some-none ss others) refl
 
 -- the next part spells none, so not all do
-pub none_of_all : (text strokes bytes : List ℕ) (others : List (Option ℕ)) → IsRead text strokes (Some bytes) → readings bytes ≡ None ∷ others → strokes_of text ≡ None
+pub none_of_all : (text strokes bytes : List ℕ) (others : List (Option ℕ)) → IsRead text strokes (Some bytes) → readings bytes ≡ None ∷ others → spelt_strokes text ≡ None
 none_of_all text strokes bytes others h next = ap all_some (h.whole ∙ ap (λ r. map Some strokes ++ r) next) ∙ all_some-none strokes others
 
 first_none : (strokes : List ℕ) (others : List (Option ℕ)) → position_or_len is_none (map Some strokes ++ None ∷ others) ≡ length strokes

@@ -3,7 +3,7 @@ use Rattle.std.proofs.Common.{◌≡◌, ℕ, suc, ◌+◌, ◌-◌, ◌*◌, �
 use Rattle.std.specs.Prelude.{if◌then◌else◌}
 use Rattle.steno_order.specs.Keys.{has, slash}
 use Rattle.steno_order.specs.Canonical.{keys_from, mark, canonical, canonical_text}
-use Rattle.steno_order.specs.Steps.{others_text}
+use Rattle.steno_order.specs.inside.Steps.{others_text}
 
 -- what was written so far, with what is left to be written, is the whole; and there is room for that
 pub record IsWriting (code first end key : ℕ) (old now : List ℕ) (old_len len old_room room : ℕ) : Type 0 where

@@ -7,7 +7,7 @@ use Rattle.steno_order.specs.declared.faults.StrokesFault.{StrokesFault}
 use Rattle.steno_order.specs.declared.faults.StrokesFault.TheVariants as strokes
 use Rattle.steno_order.specs.declared.faults.OutlineFault.{OutlineFault}
 use Rattle.steno_order.specs.declared.faults.OutlineFault.TheVariants as outline
-use Rattle.steno_order.specs.Reading.{strokes_of, unreadable_part}
+use Rattle.steno_order.specs.Reading.{spelt_strokes, unreadable_part}
 
 -- the part is the first that spells no stroke
 abbrev pub IsStrokesCause : List ℕ → StrokesFault → Type 0
@@ -17,5 +17,5 @@ IsStrokesCause text strokes.Memory = Unit {0}
 -- the part is the first that spells no stroke; or each spells one, and the parts are so many, more than 64
 abbrev pub IsOutlineCause : List ℕ → OutlineFault → Type 0
 IsOutlineCause text (outline.Unreadable part) = unreadable_part text ≡ Some part
-IsOutlineCause text (outline.TooLong parts) = (strokes : List ℕ) × (strokes_of text ≡ Some strokes) × (length strokes ≡ parts) × (64 < parts)
+IsOutlineCause text (outline.TooLong parts) = (strokes : List ℕ) × (spelt_strokes text ≡ Some strokes) × (length strokes ≡ parts) × (64 < parts)
 IsOutlineCause text outline.Memory = Unit {0}

@@ -6,7 +6,7 @@
 --     slash, hyphen           the two characters that press no key
 --     bar                     the letter of key 0
 --     has_bar text            a character of the text presses key 0
---     code_of barred keys     the code of these keys, with key 0 or without
+--     keys_code barred keys     the code of these keys, with key 0 or without
 use Rattle.std.specs.Prelude.{ℕ, ◌/◌, ◌%◌, ◌^◌, List, Bool, ◌+◌, ◌&&◌, ◌||◌, ◌==◌, nat_lt, slice_index, codes, sum_by, if◌then◌else◌}
 use Rattle.std.specs.List.{list_any}
 use Rattle.std.specs.Char.{is_ascii_digit}
@@ -44,5 +44,5 @@ abbrev pub has_bar : List ℕ → Bool
 has_bar text = list_any (λ c. c == bar || is_ascii_digit c) text
 
 -- the sum of the keys' powers of two, and of that of key 0 where it is pressed too
-abbrev pub code_of : Bool → List ℕ → ℕ
-code_of barred keys = sum_by (λ key. 2 ^ key) keys + (if barred then 1 else 0)
+abbrev pub keys_code : Bool → List ℕ → ℕ
+keys_code barred keys = sum_by (λ key. 2 ^ key) keys + (if barred then 1 else 0)

@@ -3,4 +3,4 @@ pub mod Spelling
 pub mod Canonical
 pub mod Reading
 pub mod Faults
-pub mod Steps
+pub mod inside

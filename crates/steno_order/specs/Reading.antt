@@ -1,14 +1,14 @@
 -- What a text spells, as a function.
 --     stroke_of text          the stroke, if the text spells one
 --     readings text           what each part between slashes spells
---     strokes_of text         the strokes, if each part spells one
+--     spelt_strokes text         the strokes, if each part spells one
 --     unreadable_part text    the first part that spells none, counted from 0
 -- The others are the steps to these.
 use Rattle.std.specs.Prelude.{ℕ, List, [], ◌∷◌, ◌++◌, ◌&&◌, ◌==◌, nat_lt, nat_le, if◌then◌else◌, find, map, position, Option, Some, None, option_map, option_and_then}
 use Rattle.std.specs.Option.{is_none}
 use Rattle.std.specs.List.{list_all, range_with_len}
 use Rattle.text_rules.specs.Lines.{parts_between}
-use Rattle.steno_order.specs.Keys.{is_written, code_of, has_bar, hyphen, bar}
+use Rattle.steno_order.specs.Keys.{is_written, keys_code, has_bar, hyphen, bar}
 use Rattle.steno_order.specs.Spelling.{parts_of}
 
 -- the first key after `last` and from `least` on that is written with the character
@@ -46,7 +46,7 @@ some_code code = if nat_lt 0 code then Some code else None
 
 -- the stroke of the keys that the text presses
 abbrev pub stroke_of : List ℕ → Option ℕ
-stroke_of text = option_and_then (λ keys. some_code (code_of (has_bar text) keys)) (keys_in (parts_between hyphen (without_bar text)))
+stroke_of text = option_and_then (λ keys. some_code (keys_code (has_bar text) keys)) (keys_in (parts_between hyphen (without_bar text)))
 
 -- what each part between slashes spells
 abbrev pub readings : List ℕ → List (Option ℕ)
@@ -58,8 +58,8 @@ all_some [] = Some []
 all_some (o ∷ os) = option_and_then (λ x. option_map (λ xs. x ∷ xs) (all_some os)) o
 
 -- the strokes of all parts
-abbrev pub strokes_of : List ℕ → Option (List ℕ)
-strokes_of text = all_some (readings text)
+abbrev pub spelt_strokes : List ℕ → Option (List ℕ)
+spelt_strokes text = all_some (readings text)
 
 -- the first part that spells no stroke
 abbrev pub unreadable_part : List ℕ → Option ℕ

@@ -10,7 +10,7 @@
 use Rattle.std.specs.Prelude.{ℕ, ◌<◌, ◌≤◌, ◌≡◌, ◌⊎◌, List, [], ◌∷◌, ◌++◌, true, map, All}
 use Rattle.std.specs.List.{AllZip}
 use Rattle.text_rules.specs.Lines.{parts_between}
-use Rattle.steno_order.specs.Keys.{is_written, code_of, has_bar, slash, hyphen, bar}
+use Rattle.steno_order.specs.Keys.{is_written, keys_code, has_bar, slash, hyphen, bar}
 
 -- a character, and the key that it presses
 pub record Press : Type 0 where
@@ -53,7 +53,7 @@ pub record Spelling (text : List ℕ) (code : ℕ) : Type 0 where
   pub hyphen_or_none : ((middle ≡ []) × (after ≡ [])) ⊎ ((middle ≡ hyphen ∷ []) × All (λ p. p.key < 13) before)
   pub keys_before : ArePressed 0 1 before
   pub keys_after : ArePressed (last_key 0 before) 11 after
-  pub stroke : code ≡ code_of (has_bar text) (keys_of (before ++ after))
+  pub stroke : code ≡ keys_code (has_bar text) (keys_of (before ++ after))
   pub some_key : 0 < code
 
 -- the parts of a text between slashes: one more than it has slashes

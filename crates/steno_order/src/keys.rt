@@ -1,7 +1,7 @@
 //! The characters that keys are written with.
 
 ghost use Rattle.std.specs.Prelude.{◌≡◌, ◌<◌, ◌≤◌, IfSome, IsTrue};
-ghost use Rattle.steno_order.specs.Steps.{has_keys, next_key_of};
+ghost use Rattle.steno_order.specs.inside.Steps.{has_keys, next_key_of};
 
 /// The letter of each key.
 pub(crate) const LETTERS: &[u8; 23] = b"#STKPWHRAO*EUFRPBLGTSDZ";

@@ -2,7 +2,7 @@
 
 ghost use Rattle.std.specs.Prelude.{◌≡◌, ◌≤◌, IfSome, SomeIff};
 ghost use Rattle.steno_rules.specs.Outlines.{IsStroke};
-ghost use Rattle.steno_order.specs.Steps.{after, divided};
+ghost use Rattle.steno_order.specs.inside.Steps.{after_character, divided};
 
 use crate::keys::next_key;
 use stroke::Stroke;
@@ -29,7 +29,7 @@ impl Pressed {
     /// The state after one more character, if it may follow.
     pub(crate) fn press(self, byte: u8) -> Option<Pressed>
         requires { self.next ≤ 23 }
-        ensures after { result ≡ after self byte }
+        ensures after { result ≡ after_character self byte }
         ensures next { IfSome result (λ pressed. pressed.next ≤ 23) }
     {
         if byte == b'-' {

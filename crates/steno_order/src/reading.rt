@@ -1,9 +1,9 @@
 //! Reading: a text's characters in one pass, part by part.
 
 ghost use Rattle.std.specs.Prelude.{◌≡◌, ◌+◌, ◌∷◌, ◌<◌, ◌≤◌, ◌^◌, List, ℕ, IfErr, IfOk, IfSome, MatchOption, None, Option, Some, is_some, length, option_map, slice_set};
-ghost use Rattle.steno_order.specs.Reading.{readings, stroke_of, strokes_of};
+ghost use Rattle.steno_order.specs.Reading.{readings, stroke_of, spelt_strokes};
 ghost use Rattle.steno_order.specs.Faults.{IsOutlineCause, IsStrokesCause};
-ghost use Rattle.steno_order.specs.Steps.{readings_left};
+ghost use Rattle.steno_order.specs.inside.Steps.{readings_left};
 
 use crate::faults::{OutlineFault, StrokesFault};
 use crate::pressed::Pressed;
@@ -58,7 +58,7 @@ fn read_part(text: &[u8]) -> Option<Part<'_>>
 /// refused too. Costs one step a character, and the memory of the list.
 pub fn read_strokes(alloc: Global, text: &str) -> Result<Vec<Stroke>, StrokesFault>
     requires { length text.now < 2 ^ 32 }
-    ensures ok { IfOk result (λ strokes. strokes_of text.now ≡ Some strokes.items) }
+    ensures ok { IfOk result (λ strokes. spelt_strokes text.now ≡ Some strokes.items) }
     ensures fits { IfOk result (λ strokes. length strokes.items ≤ length text.now) }
     ensures err { IfErr result (IsStrokesCause text.now) }
 {
@@ -80,7 +80,7 @@ pub fn read_strokes(alloc: Global, text: &str) -> Result<Vec<Stroke>, StrokesFau
 
 /// Whether each part of a text between slashes spells a stroke. It takes no memory.
 pub fn is_readable(text: &str) -> bool
-    ensures { result ≡ is_some (strokes_of text.now) }
+    ensures { result ≡ is_some (spelt_strokes text.now) }
 {
     let mut rest = Some(text.as_bytes());
     while let Some(bytes) = rest {
@@ -97,7 +97,7 @@ pub fn is_readable(text: &str) -> bool
 /// Costs one step a character, and memory once, of the outline's length.
 pub fn read_outline(alloc: Global, text: &str) -> Result<Outline, OutlineFault>
     requires { length text.now < 2 ^ 32 }
-    ensures ok { IfOk result (λ outline. strokes_of text.now ≡ Some outline) }
+    ensures ok { IfOk result (λ outline. spelt_strokes text.now ≡ Some outline) }
     ensures err { IfErr result (IsOutlineCause text.now) }
 {
     let mut strokes = [Stroke::default(); Outline::MAX];

@@ -2,7 +2,7 @@
 
 ghost use Rattle.std.specs.Prelude.{◌≡◌, ◌+◌, ◌-◌, ◌++◌, ◌*◌, ◌<◌, ◌≤◌, ◌^◌, ◌∷◌, [], if◌then◌else◌, IsOk, OnErr, OnOk, length, map, string_bytes, string_capacity, string_len};
 ghost use Rattle.steno_order.specs.Canonical.{canonical, canonical_text, keys_from, mark, needs_bar, needs_hyphen};
-ghost use Rattle.steno_order.specs.Steps.{has_one, others_text};
+ghost use Rattle.steno_order.specs.inside.Steps.{has_one, others_text};
 
 use crate::keys::{LETTERS, NUMBERED};
 use std::alloc::AllocError;

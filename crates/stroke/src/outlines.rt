@@ -5,7 +5,7 @@ ghost use Rattle.std.specs.Prelude.{nat_eq, refl, Some};
 ghost use Rattle.std.specs.Cmp.{partial_equiv_from_equiv};
 ghost use Rattle.std.specs.Cmp.Lexicographic.{nat_list_cmp_total, nat_list_eq_equiv, pointwise, texts_po, texts_ties};
 ghost use Rattle.steno_rules.specs.Outlines.{outline_cmp};
-ghost use Rattle.stroke.specs.Heads.{IsCodeAt, IsHead};
+ghost use Rattle.stroke.specs.inside.Heads.{IsCodeAt, IsHead};
 
 use crate::strokes::Stroke;
 use std::alloc::{AllocError, Global};
@@ -24,13 +24,13 @@ pub struct Outline {
 
 impl Model for Outline {
     ghost use Rattle.std.specs.Prelude.{ℕ, List};
-    ghost use Rattle.stroke.specs.Heads.{IsOutline};
+    ghost use Rattle.stroke.specs.inside.Heads.{IsHeaded};
 
     ghost Value = { List ℕ };
 
     ghost view = { λ o. o.strokes.items };
 
-    ghost invariant = { λ o. IsOutline o.strokes.items o.head };
+    ghost invariant = { λ o. IsHeaded o.strokes.items o.head };
 }
 
 /// The code at a place of some strokes, 0 behind their end.

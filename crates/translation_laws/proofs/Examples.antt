@@ -2,7 +2,7 @@
 -- the keys S, T, K, P, W and H.
 use Rattle.std.proofs.Common.{◌≡◌, ℕ, zero, suc, ◌<◌, List, [], ◌∷◌, length, take, refl, arith, Some}
 use Rattle.std.specs.List.{concat}
-use Rattle.steno_rules.specs.Outlines.{number_of}
+use Rattle.steno_rules.specs.Outlines.{entry_number}
 use Rattle.steno_rules.specs.Segments.{longest, segments}
 use Rattle.steno_rules.specs.Live.{merge, live}
 use Rattle.steno_rules.specs.Windows.{window}
@@ -90,7 +90,7 @@ nine_nodes : nodes wide ≡ [] ∷ (S ∷ []) ∷ (S ∷ T ∷ []) ∷ (T ∷ []
 nine_nodes = refl
 
 -- the number of P/W
-number : number_of wide (P ∷ W ∷ []) ≡ Some 3
+number : entry_number wide (P ∷ W ∷ []) ≡ Some 3
 number = refl
 
 -- ---- One word twice

@@ -5,46 +5,46 @@ use Rattle.longest_match.specs.Pieces.{piece_of}
 use Rattle.outline_trie.proofs.LookLemmas.{front_none, node_test, root_is, root_number}
 use Rattle.steno_rules.specs.Live.{merge}
 use Rattle.steno_rules.specs.Nodes.{nodes}
-use Rattle.steno_rules.specs.Outlines.{is_entry, number_of}
+use Rattle.steno_rules.specs.Outlines.{is_entry, entry_number}
 use Rattle.steno_rules.specs.Windows.{is_prefix, window_pieces}
-use Rattle.steno_rules.proofs.Numbers.{number_of-Some, number_test, none_there}
+use Rattle.steno_rules.proofs.Numbers.{entry_number-Some, number_test, none_there}
 use Rattle.steno_rules.proofs.Prefixes.{apart_entry}
-use Rattle.translator.specs.Ends.{ends_of, IsEnd, grown, is_entry_end, lost, piece_at}
+use Rattle.translator.specs.inside.Ends.{ends_of, IsEnd, longer_end, is_entry_end, lost_ends, piece_at}
 
 -- ---- one end
 
 -- the end of some strokes is none or a node
-pub end_there : (entries : List (List ℕ)) (x : List ℕ) → IsEnd entries (number_of (nodes entries) x)
-end_there entries x = by (number_of (nodes entries) x) refl
+pub end_there : (entries : List (List ℕ)) (x : List ℕ) → IsEnd entries (entry_number (nodes entries) x)
+end_there entries x = by (entry_number (nodes entries) x) refl
   where
-    by : (o : Option ℕ) → number_of (nodes entries) x ≡ o → IsEnd entries o
+    by : (o : Option ℕ) → entry_number (nodes entries) x ≡ o → IsEnd entries o
     by None is = tt
-    by (Some n) is = (number_of-Some (nodes entries) x n is).0
+    by (Some n) is = (entry_number-Some (nodes entries) x n is).0
 
 -- an end with one stroke more is the end of the strokes and that one
-pub grown_is : (entries : List (List ℕ)) (x : List ℕ) (c : ℕ) → grown entries c (number_of (nodes entries) x) ≡ number_of (nodes entries) (x ++ c ∷ [])
-grown_is entries x c = by (number_of (nodes entries) x) refl
+pub grown_is : (entries : List (List ℕ)) (x : List ℕ) (c : ℕ) → longer_end entries c (entry_number (nodes entries) x) ≡ entry_number (nodes entries) (x ++ c ∷ [])
+grown_is entries x c = by (entry_number (nodes entries) x) refl
   where
-    by : (o : Option ℕ) → number_of (nodes entries) x ≡ o → grown entries c o ≡ number_of (nodes entries) (x ++ c ∷ [])
+    by : (o : Option ℕ) → entry_number (nodes entries) x ≡ o → longer_end entries c o ≡ entry_number (nodes entries) (x ++ c ∷ [])
     by None is = sym (front_none entries x (c ∷ []) is)
-    by (Some n) is = ap (λ u. number_of (nodes entries) (u ++ c ∷ [])) (number_of-Some (nodes entries) x n is).1
+    by (Some n) is = ap (λ u. entry_number (nodes entries) (u ++ c ∷ [])) (entry_number-Some (nodes entries) x n is).1
 
 -- the test of an end tells whether its strokes are an entry
-pub entry_test : (entries : List (List ℕ)) (x : List ℕ) → is_entry_end entries (number_of (nodes entries) x) ≡ is_entry entries x
-entry_test entries x = by (number_of (nodes entries) x) refl
+pub entry_test : (entries : List (List ℕ)) (x : List ℕ) → is_entry_end entries (entry_number (nodes entries) x) ≡ is_entry entries x
+entry_test entries x = by (entry_number (nodes entries) x) refl
   where
-    by : (o : Option ℕ) → number_of (nodes entries) x ≡ o → is_entry_end entries o ≡ is_entry entries x
+    by : (o : Option ℕ) → entry_number (nodes entries) x ≡ o → is_entry_end entries o ≡ is_entry entries x
     by None is = sym (apart_entry entries x (sym (node_test entries x) ∙ ap is_some is))
-    by (Some n) is = ap (λ u. is_some (number_of entries u)) (number_of-Some (nodes entries) x n is).1 ∙ number_test entries x
+    by (Some n) is = ap (λ u. is_some (entry_number entries u)) (entry_number-Some (nodes entries) x n is).1 ∙ number_test entries x
 
 -- the piece of an end is that of its strokes, where they begin an entry or are one stroke
-pub piece_is : (entries : List (List ℕ)) (x : List ℕ) → (length x ≡ 1) ⊎ (is_prefix entries x ≡ true) → piece_at entries (number_of (nodes entries) x) ≡ piece_of entries x
-piece_is entries x made = by (number_of (nodes entries) x) refl made
+pub piece_is : (entries : List (List ℕ)) (x : List ℕ) → (length x ≡ 1) ⊎ (is_prefix entries x ≡ true) → piece_at entries (entry_number (nodes entries) x) ≡ piece_of entries x
+piece_is entries x made = by (entry_number (nodes entries) x) refl made
   where
-    by : (o : Option ℕ) → number_of (nodes entries) x ≡ o → (length x ≡ 1) ⊎ (is_prefix entries x ≡ true) → piece_at entries o ≡ piece_of entries x
-    by None is (inl one) = rw (one, none_there (number_of entries x) (number_test entries x ∙ apart_entry entries x (sym (node_test entries x) ∙ ap is_some is))) refl
+    by : (o : Option ℕ) → entry_number (nodes entries) x ≡ o → (length x ≡ 1) ⊎ (is_prefix entries x ≡ true) → piece_at entries o ≡ piece_of entries x
+    by None is (inl one) = rw (one, none_there (entry_number entries x) (number_test entries x ∙ apart_entry entries x (sym (node_test entries x) ∙ ap is_some is))) refl
     by None is (inr begins) = absurd (true≢false (sym begins ∙ sym (node_test entries x) ∙ ap is_some is))
-    by (Some n) is _ = ap (piece_of entries) (number_of-Some (nodes entries) x n is).1
+    by (Some n) is _ = ap (piece_of entries) (entry_number-Some (nodes entries) x n is).1
 
 -- ---- all ends
 
@@ -59,15 +59,15 @@ length-ends_of entries [] = refl
 length-ends_of entries (p ∷ ps) = ap suc (length-ends_of entries ps)
 
 -- the end of the pieces from a place on, or of no piece
-pub end_at : (entries ps : List (List ℕ)) (k : ℕ) → k ≤ length ps → get_or (ends_of entries ps ++ Some 0 ∷ []) k None ≡ number_of (nodes entries) (concat (drop k ps))
+pub end_at : (entries ps : List (List ℕ)) (k : ℕ) → k ≤ length ps → get_or (ends_of entries ps ++ Some 0 ∷ []) k None ≡ entry_number (nodes entries) (concat (drop k ps))
 end_at entries [] zero within = sym (root_number entries)
 end_at entries [] (suc k) within = absurd (omega arith)
 end_at entries (p ∷ ps) zero within = refl
 end_at entries (p ∷ ps) (suc k) within = end_at entries ps k (omega arith)
 
 -- that of the last piece
-pub end_last : (entries ps : List (List ℕ)) (q : List ℕ) → get_or (ends_of entries (ps ++ q ∷ [])) (length ps) None ≡ number_of (nodes entries) q
-end_last entries [] q = ap (number_of (nodes entries)) (append-nil q)
+pub end_last : (entries ps : List (List ℕ)) (q : List ℕ) → get_or (ends_of entries (ps ++ q ∷ [])) (length ps) None ≡ entry_number (nodes entries) q
+end_last entries [] q = ap (entry_number (nodes entries)) (append-nil q)
 end_last entries (p ∷ ps) q = end_last entries ps q
 
 -- the pieces to a place and the rest with one stroke more are all of them with it
@@ -79,10 +79,10 @@ joined (p ∷ ps) c (suc k) = ap (λ l. p ++ l) (joined ps c k) ∙ sym (append_
 
 -- the ends with one more stroke, where the pieces from a place on become one
 pub ends_after : (entries ps : List (List ℕ)) (c k : ℕ) → k ≤ length ps →
-    map (grown entries c) (take (suc k) (ends_of entries ps ++ Some 0 ∷ [])) ≡ ends_of entries (take k ps ++ (concat (drop k ps) ++ c ∷ []) ∷ [])
-ends_after entries [] c zero within = ap (λ u. number_of (nodes entries) (u ++ c ∷ []) ∷ []) (root_is entries)
+    map (longer_end entries c) (take (suc k) (ends_of entries ps ++ Some 0 ∷ [])) ≡ ends_of entries (take k ps ++ (concat (drop k ps) ++ c ∷ []) ∷ [])
+ends_after entries [] c zero within = ap (λ u. entry_number (nodes entries) (u ++ c ∷ []) ∷ []) (root_is entries)
 ends_after entries [] c (suc k) within = absurd (omega arith)
-ends_after entries (p ∷ ps) c zero within = ap (λ o. o ∷ []) (grown_is entries (concat (p ∷ ps)) c ∙ ap (number_of (nodes entries)) (sym (append-nil _)))
+ends_after entries (p ∷ ps) c zero within = ap (λ o. o ∷ []) (grown_is entries (concat (p ∷ ps)) c ∙ ap (entry_number (nodes entries)) (sym (append-nil _)))
 ends_after entries (p ∷ ps) c (suc k) within =
     rw (grown_is entries (concat (p ∷ ps)) c, ends_after entries ps c k (omega arith), joined ps c k, append_assoc p (concat ps) (c ∷ [])) refl
 
@@ -105,9 +105,9 @@ merge_at entries (p ∷ ps) c (suc k) within none made =
 -- ---- the window
 
 -- the pieces of the window are those from the first node on
-pub window_is : (entries ps : List (List ℕ)) → drop (lost (ends_of entries ps)) ps ≡ window_pieces entries ps
+pub window_is : (entries ps : List (List ℕ)) → drop (lost_ends (ends_of entries ps)) ps ≡ window_pieces entries ps
 window_is entries [] = refl
-window_is entries (p ∷ ps) = by (is_some (number_of (nodes entries) (concat (p ∷ ps)))) (node_test entries (concat (p ∷ ps))) (lost (ends_of entries ps)) (window_is entries ps)
+window_is entries (p ∷ ps) = by (is_some (entry_number (nodes entries) (concat (p ∷ ps)))) (node_test entries (concat (p ∷ ps))) (lost_ends (ends_of entries ps)) (window_is entries ps)
   where
     by : (b : Bool) → b ≡ is_prefix entries (concat (p ∷ ps)) → (n : ℕ) → drop n ps ≡ window_pieces entries ps →
         drop (cond (not b) (1 + n) 0) (p ∷ ps) ≡ window_pieces entries (p ∷ ps)

@@ -19,7 +19,7 @@ use Rattle.translation_laws.proofs.WindowEnds.{segments-few}
 use Rattle.translation_laws.proofs.WindowLemmas.{segments-push}
 use Rattle.translator.specs.declared.translator.Merge.{Merge}
 use Rattle.translator.specs.Translations.{IsMerge}
-use Rattle.translator.specs.Ends.{ends_of, IsEnd, IsAdvance, IsTranslator, grown, is_entry_end, lost, piece_at}
+use Rattle.translator.specs.inside.Ends.{ends_of, IsEnd, IsAdvance, IsTranslator, longer_end, is_entry_end, lost_ends, piece_at}
 use Rattle.translator.proofs.EndLemmas.{ends_there, length-ends_of, end_at, end_last, ends_after, merge_at, grown_is, entry_test, piece_is, window_is, drop-ends_of}
 
 -- the pieces of the window
@@ -46,10 +46,10 @@ module _ (entries : List (List ℕ)) (x : List ℕ) (c place : ℕ) (old ends : 
   pub place_within : place ≤ length (pieces_now entries x)
   place_within = omega (arith, a.inside, length_push old (Some 0), old_long)
 
-  test_at : (k : ℕ) → k ≤ length (pieces_now entries x) → is_entry_end entries (grown entries c (get_or (old ++ Some 0 ∷ []) k None)) ≡ is_entry entries (concat (drop k (pieces_now entries x)) ++ c ∷ [])
+  test_at : (k : ℕ) → k ≤ length (pieces_now entries x) → is_entry_end entries (longer_end entries c (get_or (old ++ Some 0 ∷ []) k None)) ≡ is_entry entries (concat (drop k (pieces_now entries x)) ++ c ∷ [])
   test_at k within =
-      ap (λ l. is_entry_end entries (grown entries c (get_or (l ++ Some 0 ∷ []) k None))) is
-      ∙ ap (λ o. is_entry_end entries (grown entries c o)) (end_at entries (pieces_now entries x) k within)
+      ap (λ l. is_entry_end entries (longer_end entries c (get_or (l ++ Some 0 ∷ []) k None))) is
+      ∙ ap (λ o. is_entry_end entries (longer_end entries c o)) (end_at entries (pieces_now entries x) k within)
       ∙ ap (is_entry_end entries) (grown_is entries (concat (drop k (pieces_now entries x))) c)
       ∙ entry_test entries (concat (drop k (pieces_now entries x)) ++ c ∷ [])
 
@@ -67,7 +67,7 @@ module _ (entries : List (List ℕ)) (x : List ℕ) (c place : ℕ) (old ends : 
   ends_new : ends ≡ ends_of entries (take place (pieces_now entries x) ++ made ∷ [])
   unfolding made
   ends_new =
-      a.grew ∙ ap (λ l. map (grown entries c) (take (place + 1) (l ++ Some 0 ∷ []))) is
+      a.grew ∙ ap (λ l. map (longer_end entries c) (take (place + 1) (l ++ Some 0 ∷ []))) is
       ∙ rw add-one (ends_after entries (pieces_now entries x) c place place_within)
 
   -- the ends are kept up to that place
@@ -101,21 +101,21 @@ module _ (entries : List (List ℕ)) (x : List ℕ) (c place : ℕ) (old ends : 
       ∙ ap (λ p. map (piece_of entries) (take place (pieces_now entries x)) ++ p ∷ []) here
       ∙ sym (map-append (piece_of entries) (take place (pieces_now entries x)) (made ∷ []))
 
-  window_new : drop (lost ends) (take place (pieces_now entries x) ++ made ∷ []) ≡ pieces_now entries (x ++ c ∷ [])
+  window_new : drop (lost_ends ends) (take place (pieces_now entries x) ++ made ∷ []) ≡ pieces_now entries (x ++ c ∷ [])
   window_new =
-      ap (λ l. drop (lost l) (take place (pieces_now entries x) ++ made ∷ [])) ends_new ∙ window_is entries (take place (pieces_now entries x) ++ made ∷ [])
+      ap (λ l. drop (lost_ends l) (take place (pieces_now entries x) ++ made ∷ [])) ends_new ∙ window_is entries (take place (pieces_now entries x) ++ made ∷ [])
       ∙ ap (window_pieces entries) (sym merged) ∙ sym (window-pushed entries x c)
 
   -- The fields after the push.
   pub pushed : (strokes : List ℕ) (pieces next : List Piece) (end : Option ℕ) (piece : Piece) (kept : List (Option ℕ)) (piece_places end_places : ℕ) → longest_of entries ≤ 64 →
       pieces ≡ map (piece_of entries) (pieces_now entries x) → end ≡ get_or ends place end → piece ≡ piece_at entries end →
-      strokes ≡ x ++ c ∷ [] → next ≡ drop (lost ends) (take place pieces ++ piece ∷ []) → kept ≡ drop (lost ends) ends → longest_of entries + 1 ≤ piece_places → longest_of entries + 1 ≤ end_places →
+      strokes ≡ x ++ c ∷ [] → next ≡ drop (lost_ends ends) (take place pieces ++ piece ∷ []) → kept ≡ drop (lost_ends ends) ends → longest_of entries + 1 ≤ piece_places → longest_of entries + 1 ≤ end_places →
       IsTranslator entries strokes next kept piece_places end_places
   pushed strokes pieces next end piece kept piece_places end_places short are read here told cut cut_ends room_of_pieces room_of_ends =
       subst (λ y. IsTranslator entries y next kept piece_places end_places) (sym told) (record {
         short = short;
-        are_pieces = cut ∙ ap (drop (lost ends)) (pieces_new pieces piece are (piece_read end piece read here)) ∙ drop-map (piece_of entries) (lost ends) (take place (pieces_now entries x) ++ made ∷ []) ∙ ap (map (piece_of entries)) window_new;
-        are_ends = cut_ends ∙ ap (drop (lost ends)) ends_new ∙ drop-ends_of entries (take place (pieces_now entries x) ++ made ∷ []) (lost ends) ∙ ap (ends_of entries) window_new;
+        are_pieces = cut ∙ ap (drop (lost_ends ends)) (pieces_new pieces piece are (piece_read end piece read here)) ∙ drop-map (piece_of entries) (lost_ends ends) (take place (pieces_now entries x) ++ made ∷ []) ∙ ap (map (piece_of entries)) window_new;
+        are_ends = cut_ends ∙ ap (drop (lost_ends ends)) ends_new ∙ drop-ends_of entries (take place (pieces_now entries x) ++ made ∷ []) (lost_ends ends) ∙ ap (ends_of entries) window_new;
         room_of_pieces = room_of_pieces;
         room_of_ends = room_of_ends;
       })

@@ -1,2 +1,2 @@
 pub mod Translations
-pub mod Ends
+pub mod inside

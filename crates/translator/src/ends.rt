@@ -1,7 +1,7 @@
 //! The ends of what was pushed. For each piece of the window its end is the node of the strokes from the piece's start on,
 //! None where no entry begins with them. One look-up advances an end by a stroke, so no stroke is kept or read again.
 ghost use Rattle.std.specs.Prelude.{◌≡◌, ◌+◌, ◌≤◌, ◌<◌, ◌++◌, ◌∷◌, [], All, drop, is_some, length, position, vec_capacity, Some};
-ghost use Rattle.translator.specs.Ends.{IsAdvance, IsEnd, grown, is_entry_end, lost, piece_at};
+ghost use Rattle.translator.specs.inside.Ends.{IsAdvance, IsEnd, longer_end, is_entry_end, lost_ends, piece_at};
 
 use longest_match::Piece;
 use outline_trie::Trie;
@@ -17,7 +17,7 @@ fn grow<L: Ledger>(
     steps: &mut Steps<L>,
 ) -> Option<u32>
     requires { IsEnd trie.now end }
-    ensures grown { result ≡ grown trie.now stroke end }
+    ensures grown { result ≡ longer_end trie.now stroke end }
     ensures cost { steps.new ≤ steps.old + 1 }
 {
     match end {
@@ -90,8 +90,8 @@ fn first_node(ends: &[Option<u32>]) -> Option<usize>
 /// Drops the pieces at the front whose ends are no nodes: no stroke makes a node of them again.
 pub(crate) fn trim(pieces: &mut Vec<Piece>, ends: &mut Vec<Option<u32>>)
     requires { length pieces.old.items ≡ length ends.old.items }
-    ensures pieces { pieces.new.items ≡ drop (lost ends.old.items) pieces.old.items }
-    ensures ends { ends.new.items ≡ drop (lost ends.old.items) ends.old.items }
+    ensures pieces { pieces.new.items ≡ drop (lost_ends ends.old.items) pieces.old.items }
+    ensures ends { ends.new.items ≡ drop (lost_ends ends.old.items) ends.old.items }
     ensures room_of_pieces { vec_capacity pieces.new ≡ vec_capacity pieces.old }
     ensures room_of_ends { vec_capacity ends.new ≡ vec_capacity ends.old }
 {

@@ -38,7 +38,7 @@ pub struct Translator<'a> {
 impl<'a> Model for Translator<'a> {
     ghost use Rattle.std.specs.Prelude.{reverse, vec_capacity};
     ghost use Rattle.translator.specs.Translations.{Translation};
-    ghost use Rattle.translator.specs.Ends.{IsTranslator};
+    ghost use Rattle.translator.specs.inside.Ends.{IsTranslator};
 
     ghost Value = { Translation };
 

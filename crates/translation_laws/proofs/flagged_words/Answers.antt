@@ -1,6 +1,6 @@
-use Rattle.steno_rules.proofs.FlaggedWords.{words_of-are, words_of-flag, words_of-all}
-use Rattle.translation_laws.proofs.WordSetLemmas.{words_of-rising}
+use Rattle.steno_rules.proofs.FlaggedWords.{flagged-are, flagged-flag, flagged-all}
+use Rattle.translation_laws.proofs.WordSetLemmas.{flagged-rising}
 use Rattle.translation_laws.proofs.flagged_words.Goals as goal
 
 pub returns : goal.returns
-returns c = record { are = words_of-are; rising = words_of-rising; number = words_of-flag; all = words_of-all }
+returns c = record { are = flagged-are; rising = flagged-rising; number = flagged-flag; all = flagged-all }

@@ -1,7 +1,7 @@
 use Rattle.std.proofs.Common.{◌≡◌, ◌≤◌, ◌∙◌, arith, length, map, string_bytes, sym, true≢false}
 use Rattle.std.proofs.lemmas.List.{length-map}
 use Rattle.dict_stack.specs.Stacks.{most_dictionaries}
-use Rattle.report.specs.Faults.{fault_of}
+use Rattle.report.specs.Refusals.{refusal_of}
 use Rattle.audit_top.specs.declared.loading.LoadFault.TheVariants.{Memory}
 use Rattle.audit_top.proofs.Ends.{wanting}
 use Rattle.audit_top.proofs.Runs.{owes-some, owes-stack, refusal}
@@ -24,4 +24,4 @@ returns-in-Err-2-clause-pays g c =
     let words = map string_bytes c.args.words.now in
     let few : length words ≤ most_dictionaries = omega (arith, length-map c.args.words.now string_bytes, c.if-words-gt-MOST_DICTIONARIES.false) in
     let other : c.in-Err.fault ≡ Memory → ⊥ = λ e. let t = c.is_memory.ensures.1 e in true≢false (sym t ∙ c.if-is_memory.false) in
-    (refusal c.args.outline.now words _ _ _ _ _ c.in-Err.fault (fault_of c.line.result) few other c.in-Err.ensures.err c.line.ensures c.end_fault-in-Err-2.ensures.pays c.end_fault-in-Err-2.ensures.status).pays
+    (refusal c.args.outline.now words _ _ _ _ _ c.in-Err.fault (refusal_of c.line.result) few other c.in-Err.ensures.err c.line.ensures c.end_fault-in-Err-2.ensures.pays c.end_fault-in-Err-2.ensures.status).pays

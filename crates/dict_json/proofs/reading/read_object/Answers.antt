@@ -3,7 +3,7 @@ use Rattle.serde_json.specs.View.{members_view}
 use Rattle.dict_json.specs.Reading.{members_of}
 use Rattle.dict_json.specs.Dictionaries.{DictionaryView, IsDictionary, last_of_each}
 use Rattle.dict_json.specs.Outcomes.{dictionary}
-use Rattle.dict_json.specs.Walks.{KeysView}
+use Rattle.dict_json.specs.inside.Walks.{KeysView}
 use Rattle.dict_json.proofs.DictionaryLemmas.{made_IsDictionary, made_outcome}
 use Rattle.dict_json.proofs.reading.read_object.Goals as goal
 

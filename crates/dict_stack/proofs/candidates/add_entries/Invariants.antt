@@ -1,5 +1,5 @@
 use Rattle.std.proofs.Common.{◌≡◌, ◌++◌, map}
-use Rattle.dict_stack.specs.Candidates.{candidate}
+use Rattle.dict_stack.specs.inside.Candidates.{candidate}
 use Rattle.dict_stack.proofs.candidates.add_entries.Given as goal
 
 abbrev pub invariant-loop-entry : goal.invariant-loop-entry

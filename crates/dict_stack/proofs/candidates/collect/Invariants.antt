@@ -1,4 +1,4 @@
-use Rattle.dict_stack.specs.Candidates.{IsCollected}
+use Rattle.dict_stack.specs.inside.Candidates.{IsCollected}
 use Rattle.dict_stack.proofs.candidates.collect.Given as goal
 
 abbrev pub invariant-loop-dictionary : goal.invariant-loop-dictionary

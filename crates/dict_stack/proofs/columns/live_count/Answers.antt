@@ -1,6 +1,6 @@
 use Rattle.std.proofs.Common.{◌∙◌, ◌+◌, sym, ap, ap₂, arith, not, nat_eq, cond}
 use Rattle.std.specs.Cmp.Lexicographic.{pointwise}
-use Rattle.dict_stack.specs.Candidates.{candidate_outline}
+use Rattle.dict_stack.specs.inside.Candidates.{candidate_outline}
 use Rattle.dict_stack.proofs.CountLemmas.{count_other, count_first}
 use Rattle.dict_stack.proofs.columns.live_count.Goals as goal
 use Rattle.dict_stack.proofs.columns.live_count.Goals.{then-place-eq0, then-place-eq0-via-then-place-eq0, then-place-eq0-via-else-place-eq0+then-ne, else-place-eq0+else-ne}

@@ -1,6 +1,6 @@
 use Rattle.std.proofs.Common.{◌≡◌, ◌<◌, ◌≤◌, ◌∙◌, ap, subst, map, length}
 use Rattle.dict_json.specs.Dictionaries.{in_order}
-use Rattle.dict_stack.specs.Candidates.{candidate_outline}
+use Rattle.dict_stack.specs.inside.Candidates.{candidate_outline}
 use Rattle.dict_stack.proofs.StableLemmas.{merged_of_sorted, ordered_same}
 use Rattle.dict_stack.proofs.columns.merge.Goals as goal
 

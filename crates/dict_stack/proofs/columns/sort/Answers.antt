@@ -5,7 +5,7 @@ use Rattle.std.proofs.lemmas.Fn.{always_returns_same}
 use Rattle.std.proofs.lemmas.List.Sorted.{ranks_by}
 use Rattle.std.proofs.lemmas.Result.{on_ok_weaker}
 use Rattle.steno_rules.specs.Outlines.{outline_cmp}
-use Rattle.dict_stack.specs.Candidates.{candidate_outline}
+use Rattle.dict_stack.specs.inside.Candidates.{candidate_outline}
 use Rattle.dict_stack.proofs.columns.sort.Goals as goal
 
 pub returns-clause-sorted : goal.returns-clause-sorted

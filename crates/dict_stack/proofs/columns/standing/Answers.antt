@@ -2,7 +2,7 @@ use Rattle.std.proofs.Common.{◌≡◌, ◌∙◌, ◌++◌, ◌∷◌, [], sym
 use Rattle.std.proofs.lemmas.List.{length-map}
 use Rattle.std.proofs.lemmas.Iterator.Consumers.{YieldsList-turn, YieldsList-so_far}
 use Rattle.std.proofs.lemmas.Iterator.Adapters.{YieldsList-from_vec}
-use Rattle.dict_stack.specs.Candidates.{AreSorted, some_word}
+use Rattle.dict_stack.specs.inside.Candidates.{AreSorted, some_word}
 use Rattle.dict_stack.proofs.CountLemmas.{next_sorted}
 use Rattle.dict_stack.proofs.columns.standing.Goals as goal
 

@@ -1,4 +1,4 @@
-use Rattle.edge_pool.specs.Runs.{IsCleared}
+use Rattle.edge_pool.specs.inside.Runs.{IsCleared}
 use Rattle.edge_pool.proofs.cells.clear.Given as goal
 
 abbrev pub invariant-loop-place : goal.invariant-loop-place

@@ -1,7 +1,7 @@
 use Rattle.std.proofs.Common.{◌≡◌, ap, ◌∙◌, arith, [], length}
 use Rattle.std.proofs.lemmas.List.{get_or_read}
 use Rattle.steno_rules.specs.Outlines.{outline_of}
-use Rattle.outline_trie.specs.Tables.{shared, outline_before}
+use Rattle.outline_trie.specs.inside.Tables.{shared, outline_before}
 use Rattle.outline_trie.proofs.LengthLemmas.{length_more}
 use Rattle.outline_trie.proofs.count.count_nodes.Goals as goal
 

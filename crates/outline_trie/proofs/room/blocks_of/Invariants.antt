@@ -1,5 +1,5 @@
 use Rattle.std.proofs.Common.{◌≡◌, ◌≤◌, take}
-use Rattle.outline_trie.specs.Rooms.{rows_in}
+use Rattle.outline_trie.specs.inside.Rooms.{rows_in}
 use Rattle.outline_trie.proofs.room.blocks_of.Given as goal
 
 abbrev pub invariant-loop-count : goal.invariant-loop-count

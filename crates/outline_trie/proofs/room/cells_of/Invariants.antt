@@ -1,5 +1,5 @@
 use Rattle.std.proofs.Common.{◌≡◌}
-use Rattle.outline_trie.specs.Rooms.{weight}
+use Rattle.outline_trie.specs.inside.Rooms.{weight}
 use Rattle.outline_trie.proofs.room.cells_of.Given as goal
 
 abbrev pub invariant-loop-class : goal.invariant-loop-class

@@ -1,5 +1,5 @@
 use Rattle.std.proofs.Common.{◌≡◌, ◌+◌}
-use Rattle.outline_trie.specs.Rooms.{weight, IsReserved}
+use Rattle.outline_trie.specs.inside.Rooms.{weight, IsReserved}
 use Rattle.outline_trie.proofs.room.reserve_all.Given as goal
 
 abbrev pub invariant-loop-class : goal.invariant-loop-class

@@ -1,7 +1,7 @@
 use Rattle.std.proofs.Common.{◌≡◌, ◌-◌, map, take, drop, length, vec_capacity}
 use Rattle.edge_pool.specs.Pools.{zeros}
-use Rattle.outline_trie.specs.Rooms.{HasRoom}
-use Rattle.outline_trie.specs.RowsOf.{AreRows, rows_at}
+use Rattle.outline_trie.specs.inside.Rooms.{HasRoom}
+use Rattle.outline_trie.specs.inside.RowsOf.{AreRows, rows_at}
 use Rattle.outline_trie.proofs.rows.zero_rows.Given as goal
 
 abbrev pub invariant-loop-count : goal.invariant-loop-count

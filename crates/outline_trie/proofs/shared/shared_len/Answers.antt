@@ -1,6 +1,6 @@
 use Rattle.std.proofs.Common.{◌≡◌, ℕ, List, [], ◌∷◌, length, drop, arith, refl, ◌⊎◌, inl, inr, length-drop, min}
 use Rattle.std.proofs.lemmas.Bool.{cases_lt}
-use Rattle.outline_trie.specs.Tables.{shared}
+use Rattle.outline_trie.specs.inside.Tables.{shared}
 use Rattle.outline_trie.proofs.shared.shared_len.Goals as goal
 
 shared_none : (xs ys : List ℕ) → (length xs ≡ 0) ⊎ (length ys ≡ 0) → shared xs ys ≡ 0

@@ -1,5 +1,5 @@
 use Rattle.std.proofs.Common.{◌≡◌, ◌+◌, drop}
-use Rattle.outline_trie.specs.Tables.{shared}
+use Rattle.outline_trie.specs.inside.Tables.{shared}
 use Rattle.outline_trie.proofs.shared.shared_len.Given as goal
 
 abbrev pub invariant-loop-place : goal.invariant-loop-place

@@ -1,6 +1,6 @@
 use Rattle.std.proofs.Common.{◌≡◌, ◌-◌, ◌<◌, length}
-use Rattle.outline_trie.specs.Tables.{up}
+use Rattle.outline_trie.specs.inside.Tables.{ancestor}
 use Rattle.outline_trie.proofs.table.climb.Given as goal
 
 abbrev pub invariant-loop : goal.invariant-loop
-invariant-loop l = record { inside : l.node < length l.parents; is : l.node ≡ up l.parents (length l.parents - 1) l.counter }
+invariant-loop l = record { inside : l.node < length l.parents; is : l.node ≡ ancestor l.parents (length l.parents - 1) l.counter }

@@ -1,6 +1,6 @@
 use Rattle.std.proofs.Common.{length, take, vec_capacity}
 use Rattle.steno_rules.specs.Nodes.{nodes}
-use Rattle.outline_trie.specs.Tables.{IsTable, IsNumbered, HasPlaces}
+use Rattle.outline_trie.specs.inside.Tables.{IsTable, IsNumbered, HasPlaces}
 use Rattle.outline_trie.proofs.table.table_of.Given as goal
 
 abbrev pub invariant-loop-number : goal.invariant-loop-number

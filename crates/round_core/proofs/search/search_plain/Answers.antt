@@ -1,5 +1,5 @@
 use Rattle.std.proofs.Common.{◌≡◌, ◌+◌, ◌≤◌, length, take, ℕ, List, [], ◌∷◌, ◌++◌, sym, ap, subst, arith, ◌∙◌, inl, inr, refl, set, replicate}
-use Rattle.round_core.specs.InRounds.{IsReady, moves_of}
+use Rattle.round_core.specs.inside.InRounds.{IsReady, moves_of}
 use Rattle.round_core.specs.Searches.{IsSearched}
 use Rattle.graph_rules.specs.Graphs.{row, unreached}
 use Rattle.round_core.proofs.Searches.{ready_start, ready_short, all_settled, all_rounds, last_made}

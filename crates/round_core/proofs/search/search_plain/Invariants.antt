@@ -1,6 +1,6 @@
 use Rattle.std.proofs.Common.{◌≡◌, ◌<◌, ◌≤◌, ◌-◌, ◌*◌, ◌+◌, ◌⊎◌, ℕ, length, take}
 use Rattle.graph_rules.specs.Graphs.{IsBest}
-use Rattle.round_core.specs.InRounds.{IsReady, moves_of}
+use Rattle.round_core.specs.inside.InRounds.{IsReady, moves_of}
 use Rattle.round_core.proofs.search.search_plain.Given as goal
 
 abbrev pub invariant-loop-at : goal.invariant-loop-at

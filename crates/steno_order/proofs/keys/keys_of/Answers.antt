@@ -1,6 +1,6 @@
 use Rattle.std.proofs.Common.{◌≡◌, ◌+◌, get_or, arith, refl, subst, true}
 use Rattle.steno_order.specs.declared.keys.TheConstants.{KEYS}
-use Rattle.steno_order.specs.Steps.{has_keys}
+use Rattle.steno_order.specs.inside.Steps.{has_keys}
 use Rattle.steno_order.proofs.Ranges.{tested}
 use Rattle.steno_order.proofs.keys.keys_of.Goals as goal
 

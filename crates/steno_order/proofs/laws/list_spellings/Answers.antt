@@ -1,5 +1,5 @@
 use Rattle.steno_order.proofs.Lists.{SpellingOfAll-strokes, strokes-SpellingOfAll, SpellingOfAll-unique}
-use Rattle.steno_order.proofs.ListLaws.{SpellingOfAll-IsStroke, SpellingOfAll-length, SpellingOfAll-some, strokes_of-none, none-strokes_of}
+use Rattle.steno_order.proofs.ListLaws.{SpellingOfAll-IsStroke, SpellingOfAll-length, SpellingOfAll-some, spelt_strokes-none, none-spelt_strokes}
 use Rattle.steno_order.proofs.laws.list_spellings.Goals as goal
 
 pub returns : goal.returns
@@ -9,5 +9,5 @@ returns c = record {
   strokes = SpellingOfAll-IsStroke;
   parts = SpellingOfAll-length;
   not_empty = SpellingOfAll-some;
-  none = λ text. (strokes_of-none text, λ first. none-strokes_of text first.0 first.1);
+  none = λ text. (spelt_strokes-none text, λ first. none-spelt_strokes text first.0 first.1);
 }

@@ -1,5 +1,5 @@
 use Rattle.std.proofs.Common.{arith, sym, ap, ◌∙◌}
-use Rattle.steno_order.specs.Steps.{spelt_from}
+use Rattle.steno_order.specs.inside.Steps.{spelt_from}
 use Rattle.steno_order.proofs.Steps.{nothing, stroke_of-steps}
 use Rattle.steno_order.proofs.Loops.{stroke_is, spelt_more, spelt_refused, spelt_all}
 use Rattle.steno_order.proofs.reading.read_stroke.Goals as goal

@@ -1,6 +1,6 @@
 use Rattle.std.proofs.Common.{◌≡◌, ◌≤◌, drop}
 use Rattle.steno_order.specs.Reading.{stroke_of}
-use Rattle.steno_order.specs.Steps.{spelt_from}
+use Rattle.steno_order.specs.inside.Steps.{spelt_from}
 use Rattle.steno_order.proofs.reading.read_stroke.Given as goal
 
 abbrev pub invariant-loop-byte : goal.invariant-loop-byte

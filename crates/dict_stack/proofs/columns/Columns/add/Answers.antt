@@ -1,5 +1,5 @@
 use Rattle.std.proofs.Common.{◌≡◌, ◌∙◌, ◌++◌, ◌∷◌, [], sym, ap, ap₂, refl, false, true, arith}
-use Rattle.dict_stack.specs.Candidates.{candidate_outline, is_end}
+use Rattle.dict_stack.specs.inside.Candidates.{candidate_outline, is_end}
 use Rattle.dict_stack.proofs.ColumnLemmas.{merged_new, merged_same, or_last_is}
 use Rattle.dict_stack.proofs.EndLemmas.{is_end-some}
 use Rattle.dict_stack.proofs.columns.Columns.add.Goals as goal

@@ -2,8 +2,8 @@ use Rattle.std.proofs.Common.{◌≤◌, ◌∙◌, sym, ap, subst, length}
 use Rattle.std.proofs.lemmas.Result.{err_from_is_err_and}
 use Rattle.dict_stack.specs.Stacks.{all_outlines, most_entries}
 use Rattle.dict_stack.specs.Appearances.{strokes_of_all}
-use Rattle.dict_stack.specs.Candidates.{IsCollected}
-use Rattle.dict_stack.specs.Faults.{IsCauseOf}
+use Rattle.dict_stack.specs.inside.Candidates.{IsCollected}
+use Rattle.dict_stack.specs.Faults.{IsStackCause}
 use Rattle.dict_stack.proofs.ViewLemmas.{view_is, view_stands, total_is, outlines_stand}
 use Rattle.dict_stack.proofs.stacks.Stack.new.Goals as goal
 
@@ -12,8 +12,8 @@ returns-in_err-outlines-clause-err c =
     let collected : IsCollected c.args.dictionaries.items c.args.word_files.items c.in_ok-candidates.field-0 =
     subst (λ l. IsCollected c.args.dictionaries.items l c.in_ok-candidates.field-0) c.deref.ensures.value c.in_ok-candidates.ensures in
     let p = err_from_is_err_and c.from_residual-in_err-outlines.result c.from_residual-in_err-outlines.ensures.1 in
-    let cause : IsCauseOf (all_outlines c.args.dictionaries.items) c.in_err-outlines.field-0.0 =
-    subst (λ l. IsCauseOf l c.in_err-outlines.field-0.0) (outlines_stand c.args.dictionaries.items c.args.word_files.items c.in_ok-candidates.field-0 collected) c.in_err-outlines.ensures.err in
+    let cause : IsStackCause (all_outlines c.args.dictionaries.items) c.in_err-outlines.field-0.0 =
+    subst (λ l. IsStackCause l c.in_err-outlines.field-0.0) (outlines_stand c.args.dictionaries.items c.args.word_files.items c.in_ok-candidates.field-0 collected) c.in_err-outlines.ensures.err in
     rw (p.1, p.2) cause
 
 pub invariant_of-result : goal.invariant_of-result

@@ -3,7 +3,7 @@ use Rattle.std.proofs.lemmas.List.{get_or_read, length-replicate, with_items_is}
 use Rattle.edge_pool.specs.Pools.{Extent, Pool, zeros}
 use Rattle.edge_pool.proofs.ListedLemmas.{listed_from}
 use Rattle.edge_pool.specs.Classes.{size_of}
-use Rattle.edge_pool.specs.Cuts.{next_free}
+use Rattle.edge_pool.specs.inside.Cuts.{next_free}
 use Rattle.edge_pool.proofs.ClassLemmas.{class_known, size_pos}
 use Rattle.edge_pool.proofs.StepLemmas.{take_sound, first_block, live_apart}
 use Rattle.edge_pool.proofs.PoolLemmas.{take_seen, take_unlisted, same_fields, same_seen, spare_there}

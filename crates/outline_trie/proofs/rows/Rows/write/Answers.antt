@@ -1,6 +1,6 @@
 use Rattle.std.proofs.Common.{◌<◌, ap, sym, subst, ◌∙◌, arith}
 use Rattle.edge_pool.specs.Pools.{Extent, Pool, Lists, written}
-use Rattle.outline_trie.specs.RowsOf.{AreRows, rows_at}
+use Rattle.outline_trie.specs.inside.RowsOf.{AreRows, rows_at}
 use Rattle.outline_trie.proofs.RowLemmas.{seen_inside, seen_some, seen_within, seen_written, written_sound, index_below, block_is, block_listed}
 use Rattle.outline_trie.proofs.rows.Rows.write.Goals as goal
 

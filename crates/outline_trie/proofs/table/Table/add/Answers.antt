@@ -2,7 +2,7 @@ use Rattle.std.proofs.Common.{ℕ, ◌≡◌, ◌-◌, ◌<◌, List, length, ta
 use Rattle.std.proofs.lemmas.List.{get_or_read}
 use Rattle.steno_rules.specs.Outlines.{outline_of}
 use Rattle.steno_rules.proofs.NodeLemmas.{nodes-first}
-use Rattle.outline_trie.specs.Tables.{shared, outline_before}
+use Rattle.outline_trie.specs.inside.Tables.{shared, outline_before}
 use Rattle.outline_trie.proofs.LengthLemmas.{length_rises}
 use Rattle.outline_trie.proofs.ExtendLemmas.{top_at, add_numbers, parents_below}
 use Rattle.outline_trie.proofs.table.Table.add.Goals as goal

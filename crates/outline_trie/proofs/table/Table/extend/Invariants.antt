@@ -1,7 +1,7 @@
 use Rattle.std.proofs.Common.{length, take, vec_capacity}
 use Rattle.steno_rules.specs.Outlines.{outline_of}
 use Rattle.steno_rules.specs.Nodes.{nodes}
-use Rattle.outline_trie.specs.Tables.{HasPlaces}
+use Rattle.outline_trie.specs.inside.Tables.{HasPlaces}
 use Rattle.outline_trie.proofs.GrowLemmas.{grown}
 use Rattle.outline_trie.proofs.ExtendLemmas.{IsExtending}
 use Rattle.outline_trie.proofs.table.Table.extend.Given as goal

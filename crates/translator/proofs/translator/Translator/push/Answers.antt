@@ -3,7 +3,7 @@ use Rattle.std.proofs.lemmas.Grind.{reverse_onto}
 use Rattle.std.proofs.lemmas.List.{length-map}
 use Rattle.longest_match.specs.Pieces.{piece_of, pieces as pieces_of}
 use Rattle.outline_trie.specs.Tries.{longest_of}
-use Rattle.translator.specs.Ends.{lost}
+use Rattle.translator.specs.inside.Ends.{lost_ends}
 use Rattle.translator.specs.Translations.{Translation, IsMerge}
 use Rattle.translator.proofs.EndLemmas.{length-ends_of}
 use Rattle.translator.proofs.PushLemmas.{pieces_now, window_short, ends_known, place_within, new_long, pushed, answered}
@@ -72,7 +72,7 @@ invariant_of-self g c =
     pushed c.self.inside.trie.now strokes c.args.stroke c.advance-place.result c.self.inside.ends.items c.advance-place.new.ends.items c.self.invariant.are_ends c.advance-place.ensures.advance
     _ c.self.inside.pieces.items c.trim.new.pieces.items c.index.result.now c.piece_of_end-piece.result c.trim.new.ends.items _ _ c.self.invariant.short c.self.invariant.are_pieces
     c.index.ensures c.piece_of_end-piece.ensures (ap reverse c.and-self-inside.ensures ∙ reverse_onto c.self.inside.told.items c.args.stroke [])
-    (c.trim.ensures.pieces ∙ ap (drop (lost c.advance-place.new.ends.items)) (c.push_reserved.ensures.items ∙ ap (λ l. l ++ c.piece_of_end-piece.result ∷ []) c.truncate.ensures.items)) c.trim.ensures.ends
+    (c.trim.ensures.pieces ∙ ap (drop (lost_ends c.advance-place.new.ends.items)) (c.push_reserved.ensures.items ∙ ap (λ l. l ++ c.piece_of_end-piece.result ∷ []) c.truncate.ensures.items)) c.trim.ensures.ends
     (omega (arith, c.trim.ensures.room_of_pieces, c.push_reserved.ensures.capacity, c.truncate.ensures.capacity, c.self.invariant.room_of_pieces))
     (omega (arith, c.trim.ensures.room_of_ends, c.advance-place.ensures.capacity, c.self.invariant.room_of_ends))
 

@@ -2,12 +2,12 @@
 -- so comes to `stroke_of` is proved.
 --     has_keys c keys             the keys of the code are those that are written with the character
 --     next_key_of next c          the first key from `next` on that is written with the character
---     after p c                   the state after one more character
+--     after_character p c                   the state after_character one more character
 --     spelt_from p text           the stroke, if this text goes on from the state to one
 --     readings_from p text        what each part between slashes spells, where the first goes on from the state
 --     readings_left rest          what each part of a text spells, if there is a text left
 --     has_one code keys           the stroke has one of these keys
---     others_text strokes         the strokes' texts, each after a slash
+--     others_text strokes         the strokes' texts, each after_character a slash
 use Rattle.std.specs.Prelude.{ℕ, ◌+◌, ◌^◌, List, [], ◌∷◌, ◌++◌, Bool, true, ◌&&◌, ◌==◌, not, nat_lt, nat_le, max, if◌then◌else◌, find, map, Option, Some, None, option_map, option_and_then}
 use Rattle.std.specs.List.{list_all, list_any, range_with_len}
 use Rattle.std.specs.Char.{is_ascii_digit}
@@ -26,17 +26,17 @@ has_keys c keys = nat_lt keys (2 ^ 23) && list_all (λ key. if is_written c key 
 unfoldable pub next_key_of : ℕ → ℕ → Option ℕ
 next_key_of next c = find (λ key. is_written c key && nat_le next key) (range_with_len 0 23)
 
--- after a hyphen, where none came before it and no key from 13 on
+-- after_character a hyphen, where none came before it and no key from 13 on
 abbrev pub divided : Pressed → Option Pressed
 divided p = if not p.hyphen && nat_le p.next 13 then Some (record { code = p.code; next = max p.next 11; hyphen = true }) else None
 
--- after a character that presses this key, and key 0 if it is a digit
+-- after_character a character that presses this key, and key 0 if it is a digit
 abbrev pub with_key : Pressed → ℕ → ℕ → Pressed
 with_key p c key = record { code = bit_or (bit_or p.code (2 ^ key)) (if is_ascii_digit c then 1 else 0); next = key + 1; hyphen = p.hyphen }
 
--- after one more character
-abbrev pub after : Pressed → ℕ → Option Pressed
-after p c = if c == hyphen then divided p else option_map (with_key p c) (next_key_of p.next c)
+-- after_character one more character
+abbrev pub after_character : Pressed → ℕ → Option Pressed
+after_character p c = if c == hyphen then divided p else option_map (with_key p c) (next_key_of p.next c)
 
 -- the code, if it is that of a stroke
 abbrev pub stroke_with : ℕ → Option ℕ
@@ -45,7 +45,7 @@ stroke_with code = if nat_lt 0 code && nat_lt code (2 ^ 23) then Some code else 
 -- the stroke, if this text goes on from the state to one
 abbrev pub spelt_from : Pressed → List ℕ → Option ℕ
 spelt_from p [] = stroke_with p.code
-spelt_from p (c ∷ cs) = option_and_then (λ q. spelt_from q cs) (after p c)
+spelt_from p (c ∷ cs) = option_and_then (λ q. spelt_from q cs) (after_character p c)
 
 -- what the parts spell, where the first goes on from the state
 abbrev pub each_from : Pressed → List (List ℕ) → List (Option ℕ)
@@ -65,7 +65,7 @@ readings_left (Some text) = readings text
 unfoldable pub has_one : ℕ → ℕ → Bool
 has_one code keys = list_any (λ key. has keys key && has code key) (range_with_len 0 23)
 
--- the strokes' texts, each after a slash
+-- the strokes' texts, each after_character a slash
 abbrev pub others_text : List ℕ → List ℕ
 others_text [] = []
 others_text (stroke ∷ strokes) = (slash ∷ canonical stroke) ++ others_text strokes

@@ -2,7 +2,7 @@
 use Rattle.std.specs.Prelude.{ℕ, ◌≡◌, ◌<◌, ◌≤◌, ◌^◌, List, [], length, get_or}
 use Rattle.steno_rules.specs.Outlines.{AreEntries}
 use Rattle.steno_rules.specs.Nodes.{nodes}
-use Rattle.outline_trie.specs.Tables.{IsTable, IsNumbered}
+use Rattle.outline_trie.specs.inside.Tables.{IsTable, IsNumbered}
 use Rattle.outline_trie.specs.Tries.{AreChildren, longest_of}
 
 pub record IsTrie (entries : List (List ℕ)) (parents strokes depths numbers : List ℕ) (rows : List (List (ℕ × ℕ))) (longest : ℕ) : Type 0 where

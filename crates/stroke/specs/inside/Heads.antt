@@ -1,7 +1,7 @@
 -- The head of an outline: its first two strokes as one number, by which most outlines are compared.
 --     IsCodeAt x place    at a place of the list x there is a code, or x ends before it, and then 0 stands for it
 --     IsHead x head       the number made of the first two
---     IsOutline x head    what the fields of an outline have in common
+--     IsHeaded x head    what the fields of an outline have in common
 use Rattle.std.specs.Prelude.{ℕ, ◌≡◌, ◌+◌, ◌*◌, ◌<◌, ◌≤◌, List, length, slice_index_or}
 
 pub record IsCodeAt (x : List ℕ) (place : ℕ) : Type 0 where
@@ -13,6 +13,6 @@ pub record IsHead (x : List ℕ) (head : ℕ) : Type 0 where
   pub first : IsCodeAt x 0
   pub second : IsCodeAt x 1
 
-pub record IsOutline (x : List ℕ) (head : ℕ) : Type 0 where
+pub record IsHeaded (x : List ℕ) (head : ℕ) : Type 0 where
   pub few : length x ≤ 64
   pub headed : IsHead x head

@@ -4,7 +4,7 @@
 --     AreRows pool blocks indexes         what the pool, the blocks and the indexes have in common
 use Rattle.std.specs.Prelude.{ℕ, ◌≡◌, ◌<◌, ◌≤◌, [], nat_eq, length, get_or, map, List, if◌then◌else◌}
 use Rattle.edge_pool.specs.Pools.{Extent, Pool, Lists, pairs_of}
-use Rattle.outline_trie.specs.Tables.{none_number}
+use Rattle.outline_trie.specs.inside.Tables.{none_number}
 
 -- what an index past the end reads, which no row has
 abbrev pub no_block : Extent

@@ -3,10 +3,10 @@
 --     IsTable X parents strokes depths    the columns are of these nodes; the first node is the root
 --     IsNumbered entries X numbers    each node has its number as an entry, or none
 --     HasPlaces count ..              each column has places for so many nodes
---     up parents node levels          the node so many levels above
+--     ancestor parents node levels          the node so many levels above
 use Rattle.std.specs.Prelude.{ℕ, zero, suc, ◌≡◌, ◌<◌, ◌≤◌, ◌++◌, ◌∷◌, [], length, get_or, List, Option, Some, None, nat_eq}
 use Rattle.std.specs.List.{common_prefix_len}
-use Rattle.steno_rules.specs.Outlines.{outline_of, number_of}
+use Rattle.steno_rules.specs.Outlines.{outline_of, entry_number}
 
 pub record IsStep (X : List (List ℕ)) (node parent stroke : ℕ) : Type 0 where
   pub before : parent < node
@@ -30,7 +30,7 @@ written_number (Some number) = number
 
 pub record IsNumbered (entries X : List (List ℕ)) (numbers : List ℕ) : Type 0 where
   pub long : length numbers ≡ length X
-  pub number : (node : ℕ) → node < length X → get_or numbers node 0 ≡ written_number (number_of entries (outline_of X node))
+  pub number : (node : ℕ) → node < length X → get_or numbers node 0 ≡ written_number (entry_number entries (outline_of X node))
 
 pub record HasPlaces (count parents strokes depths numbers : ℕ) : Type 0 where
   pub in_parents : count ≤ parents
@@ -38,9 +38,9 @@ pub record HasPlaces (count parents strokes depths numbers : ℕ) : Type 0 where
   pub in_depths : count ≤ depths
   pub in_numbers : count ≤ numbers
 
-abbrev pub up : List ℕ → ℕ → ℕ → ℕ
-up parents node zero = node
-up parents node (suc levels) = up parents (get_or parents node 0) levels
+abbrev pub ancestor : List ℕ → ℕ → ℕ → ℕ
+ancestor parents node zero = node
+ancestor parents node (suc levels) = ancestor parents (get_or parents node 0) levels
 
 -- the strokes that two outlines begin with alike
 abbrev pub shared : List ℕ → List ℕ → ℕ
