@@ -11,7 +11,7 @@ use Rattle.std.specs.Prelude.{ℕ, ◌≡◌, ◌<◌, ◌≤◌, ◌+◌, ◌-�
 use Rattle.std.specs.Coded.{Coded, code_by, coded×, coded_ℕ, coded_list}
 use Rattle.std.specs.Ordering.{nat_cmp}
 use Rattle.std.specs.FinMap as map
-use Rattle.edge_pool.specs.Classes.{class_of, size_of}
+use Rattle.edge_pool.specs.Classes.{class_of, size_of, class_count}
 
 pub record Extent : Type 0 where
   pub place : ℕ
@@ -49,8 +49,13 @@ IsFull pool len = (spare_of pool len ≡ 0) × (pool.uncut < size_of (class_of l
 abbrev pub zeros : ℕ → List (ℕ × ℕ)
 zeros len = replicate len (0, 0)
 
+-- the most cells of a pool
+abbrev pub most_cells : ℕ
+most_cells = 16777216
+
+-- a new pool
 abbrev pub uncut_pool : ℕ → Pool
-uncut_pool cells = record { live = map.empty; uncut = cells; spare = replicate 23 0 }
+uncut_pool cells = record { live = map.empty; uncut = cells; spare = replicate class_count 0 }
 
 -- the cells that a reservation has to cut
 abbrev pub needed : Pool → ℕ → ℕ → ℕ

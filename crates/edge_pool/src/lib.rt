@@ -9,6 +9,12 @@
 //! `take` and `give` take the time of clearing the block, `read` and `write` a constant one.
 #![tactic(auto)]
 
+ghost use Rattle.std.specs.Prelude.{◌≡◌};
+ghost use Rattle.edge_pool.specs.Classes.{class_count, most_len};
+ghost use Rattle.edge_pool.specs.Pools.{most_cells};
+ghost use Rattle.edge_pool.specs.declared.classes.TheConstants.{CLASSES, MAX_LEN};
+ghost use Rattle.edge_pool.specs.declared.pool.TheConstants.EdgePool.{MAX_CELLS};
+
 mod block;
 mod cells;
 mod classes;
@@ -18,5 +24,12 @@ mod pool;
 mod tests;
 
 pub use block::Block;
-pub use classes::{CLASSES, class_of_len, size_of_class};
+pub use classes::{CLASSES, MAX_LEN, class_of_len, size_of_class};
 pub use pool::{EdgePool, PoolFault};
+
+/// The limits: 23 classes, so that a block has at most 4,194,304 cells, and at most 16,777,216 cells in a pool.
+pub fn limits()
+    ensures classes { (CLASSES ≡ class_count) × (class_count ≡ 23) }
+    ensures len { (MAX_LEN ≡ most_len) × (most_len ≡ 4194304) }
+    ensures cells { (MAX_CELLS ≡ most_cells) × (most_cells ≡ 16777216) }
+{}

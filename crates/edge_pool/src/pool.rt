@@ -1,8 +1,8 @@
 //! The pool: the region, the free lists in it, and the calls on its blocks.
 ghost use Rattle.std.specs.Prelude.{◌≡◌, ◌≢◌, ◌+◌, ◌-◌, ◌<◌, ◌≤◌, ◌↔◌, ◌++◌, ℕ, None, Some, length, drop, slice_get, slice_set, slice_index, IfOk, IfErr, IsErr, OnOk, OnErr};
 ghost use Rattle.std.specs.FinMap as map;
-ghost use Rattle.edge_pool.specs.Classes.{class_of, size_of, IsLen};
-ghost use Rattle.edge_pool.specs.Pools.{Extent, Lists, pairs_of, AreApart, spare_of, IsFull, needed, zeros, lengthened, uncut_pool, reserved, taken, written, given, grown};
+ghost use Rattle.edge_pool.specs.Classes.{class_of, size_of, class_count, IsLen};
+ghost use Rattle.edge_pool.specs.Pools.{Extent, Lists, pairs_of, AreApart, spare_of, IsFull, needed, zeros, lengthened, most_cells, uncut_pool, reserved, taken, written, given, grown};
 
 use crate::block::Block;
 use crate::cells::clear;
@@ -17,7 +17,7 @@ use thiserror::Error;
 #[derive(Clone, Copy, Debug, PartialEq, Eq, Drop, Error)]
 pub enum PoolFault {
     /// No free block of the class is left, and too few cells are uncut.
-    #[error("the pool has no room for the block")]
+    #[error("no free block of the class, and too few uncut cells for one")]
     Full,
 }
 
@@ -48,9 +48,12 @@ impl Model for EdgePool {
 }
 
 impl EdgePool {
+    /// The most cells of a pool.
+    pub const MAX_CELLS: u32 = 16_777_216;
+
     /// A pool of this many cells, all of them uncut. It takes eight bytes a cell, and no later call takes any memory.
     pub fn with_cells(alloc: Global, cells: u32) -> Result<EdgePool, AllocError>
-        requires { cells ≤ 16777216 }
+        requires { cells ≤ most_cells }
         ensures { IfOk result (λ pool. pool ≡ uncut_pool cells) }
     {
         Ok(EdgePool {
@@ -198,7 +201,7 @@ impl EdgePool {
 
     /// Cuts one block of a class, which is free.
     fn cut_spare(&mut self, class: usize)
-        requires known { class < 23 }
+        requires known { class < class_count }
         requires room { size_of class ≤ self.old.uncut }
         ensures { self.new ≡ record self.old { uncut = self.old.uncut - size_of class; spare = slice_set self.old.spare class (slice_index self.old.spare class + 1) } }
     {
@@ -217,7 +220,7 @@ impl EdgePool {
     /// Makes the first free block of a class live.
     fn take_spare(&mut self, class: usize, len: u32) -> Block
         requires len { IsLen len }
-        requires known { class < 23 }
+        requires known { class < class_count }
         requires is { class ≡ class_of len }
         requires spare { 0 < slice_index self.old.spare class }
         ensures len { result.len ≡ len }

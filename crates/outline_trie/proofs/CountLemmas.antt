@@ -19,8 +19,8 @@ is_no_child parents node child other = plain child (get_or parents child 0) othe
     plain : (c p : ℕ) → p ≢ node → (not (nat_eq c 0) && nat_eq p node) ≡ false
     plain c p h = grind (arith, nat_tests)
 
-pub count_kid : (parents : List ℕ) (node child : ℕ) → 0 < child → get_or parents child 0 ≡ node → child_count parents node (child + 1) ≡ child_count parents node child + 1
-count_kid parents node child later is = rw (add-one child, is_its_child parents node child later is) refl
+pub count_child : (parents : List ℕ) (node child : ℕ) → 0 < child → get_or parents child 0 ≡ node → child_count parents node (child + 1) ≡ child_count parents node child + 1
+count_child parents node child later is = rw (add-one child, is_its_child parents node child later is) refl
 
 pub count_other : (parents : List ℕ) (node child : ℕ) → get_or parents child 0 ≢ node → child_count parents node (child + 1) ≡ child_count parents node child
 count_other parents node child other = rw (add-one child, is_no_child parents node child other) (omega arith)
@@ -40,7 +40,7 @@ count_more parents counts child parent more h later is inside one = record {
   each = λ p within. elim (cases_eq p parent) [
     | inl same ↦
         ap (λ q. get_or (set counts parent more) q 0) same ∙ get_or-set_same counts parent more 0 (omega (arith, h.long)) ∙ one
-        ∙ ap (λ n. n + 1) (h.each parent inside) ∙ sym (ap (λ q. child_count parents q (child + 1)) same ∙ count_kid parents parent child later is)
+        ∙ ap (λ n. n + 1) (h.each parent inside) ∙ sym (ap (λ q. child_count parents q (child + 1)) same ∙ count_child parents parent child later is)
     | inr other ↦ get_or-set_other counts parent p more 0 other ∙ h.each p within ∙ sym (count_other parents p child (λ e. other (sym e ∙ is)))
   ];
   total = omega (arith, h.total, one, sum_by-set (λ x. x) counts parent more 0 (omega (arith, h.long)));
@@ -79,11 +79,11 @@ length-children_among parents strokes node (suc count) =
     one true = refl
     one false = refl
 
-kids_kid : (parents strokes : List ℕ) (node child : ℕ) → 0 < child → get_or parents child 0 ≡ node → children_among parents strokes node (child + 1) ≡ children_among parents strokes node child ++ (get_or strokes child 1, child) ∷ []
-kids_kid parents strokes node child later is = rw (add-one child, is_its_child parents node child later is) refl
+children_child : (parents strokes : List ℕ) (node child : ℕ) → 0 < child → get_or parents child 0 ≡ node → children_among parents strokes node (child + 1) ≡ children_among parents strokes node child ++ (get_or strokes child 1, child) ∷ []
+children_child parents strokes node child later is = rw (add-one child, is_its_child parents node child later is) refl
 
-kids_other : (parents strokes : List ℕ) (node child : ℕ) → get_or parents child 0 ≢ node → children_among parents strokes node (child + 1) ≡ children_among parents strokes node child
-kids_other parents strokes node child other = rw (add-one child, is_no_child parents node child other, append-nil (children_among parents strokes node child)) refl
+children_other : (parents strokes : List ℕ) (node child : ℕ) → get_or parents child 0 ≢ node → children_among parents strokes node (child + 1) ≡ children_among parents strokes node child
+children_other parents strokes node child other = rw (add-one child, is_no_child parents node child other, append-nil (children_among parents strokes node child)) refl
 
 zeros_more : (n m : ℕ) → n ≡ suc m → zeros n ≡ (0, 0) ∷ zeros m
 zeros_more n m is = ap zeros is
@@ -97,7 +97,7 @@ module _ (parents strokes filled : List ℕ) (rows : List (List (ℕ × ℕ))) (
   so_far = child_count parents parent child
 
   room : so_far + 1 ≤ all
-  room = omega (arith, count_kid parents parent child later is, count_rises parents parent (length parents - (child + 1)) (child + 1), ap (child_count parents parent) (sum (length parents) child within))
+  room = omega (arith, count_child parents parent child later is, count_rises parents parent (length parents - (child + 1)) (child + 1), ap (child_count parents parent) (sum (length parents) child within))
     where
       sum : (a b : ℕ) → b < a → b + 1 + (a - (b + 1)) ≡ a
       sum a b lt = omega arith
@@ -121,8 +121,8 @@ module _ (parents strokes filled : List ℕ) (rows : List (List (ℕ × ℕ))) (
       ∙ set_at (children_among parents strokes parent child) (0, 0) (zeros (all - (so_far + 1))) (stroke, child) place (length-children_among parents strokes parent child ∙ sym place_is)
       ∙ sym (append_assoc (children_among parents strokes parent child) ((stroke, child) ∷ []) (zeros (all - (so_far + 1))))
       ∙ ap (λ s. (children_among parents strokes parent child ++ (s, child) ∷ []) ++ zeros (all - (so_far + 1))) told
-      ∙ ap (λ ks. ks ++ zeros (all - (so_far + 1))) (sym (kids_kid parents strokes parent child later is))
-      ∙ ap (λ n. children_among parents strokes parent (child + 1) ++ zeros (all - n)) (sym (count_kid parents parent child later is))
+      ∙ ap (λ ks. ks ++ zeros (all - (so_far + 1))) (sym (children_child parents strokes parent child later is))
+      ∙ ap (λ n. children_among parents strokes parent (child + 1) ++ zeros (all - n)) (sym (count_child parents parent child later is))
 
   pub fill_more : IsFilled parents strokes (set filled parent (place + 1)) (set rows parent (set (get_or rows parent []) place (stroke, child))) (child + 1)
   fill_more = record {
@@ -133,12 +133,12 @@ module _ (parents strokes filled : List ℕ) (rows : List (List (ℕ × ℕ))) (
       | inr other ↦
           get_or-set_other rows parent p (set (get_or rows parent []) place (stroke, child)) [] other ∙ h.row p below
           ∙ ap (λ n. children_among parents strokes p child ++ zeros (child_count parents p (length parents) - n)) (sym (count_other parents p child (λ e. other (sym e ∙ is))))
-          ∙ ap (λ ks. ks ++ zeros (child_count parents p (length parents) - child_count parents p (child + 1))) (sym (kids_other parents strokes p child (λ e. other (sym e ∙ is))))
+          ∙ ap (λ ks. ks ++ zeros (child_count parents p (length parents) - child_count parents p (child + 1))) (sym (children_other parents strokes p child (λ e. other (sym e ∙ is))))
     ];
     place = λ p below. elim (cases_eq p parent) [
       | inl same ↦
           ap (λ q. get_or (set filled parent (place + 1)) q 0) same ∙ get_or-set_same filled parent (place + 1) 0 (omega (arith, h.filled_long)) ∙ ap (λ n. n + 1) place_is
-          ∙ sym (ap (λ q. child_count parents q (child + 1)) same ∙ count_kid parents parent child later is)
+          ∙ sym (ap (λ q. child_count parents q (child + 1)) same ∙ count_child parents parent child later is)
       | inr other ↦ get_or-set_other filled parent p (place + 1) 0 other ∙ h.place p below ∙ sym (count_other parents p child (λ e. other (sym e ∙ is)))
     ];
   }

@@ -3,7 +3,7 @@ mod GrowLemmas
 mod LengthLemmas
 mod TableLemmas
 mod ExtendLemmas
-mod KidLemmas
+mod ChildLemmas
 pub mod DepthLemmas
 pub mod LookLemmas
 mod RowLemmas

@@ -6,7 +6,7 @@ use Rattle.outline_trie.specs.inside.Tables.{IsTable, IsNumbered}
 use Rattle.outline_trie.specs.inside.Children.{children_among}
 use Rattle.outline_trie.specs.Tries.{AreChildren, longest_of}
 use Rattle.outline_trie.specs.inside.Invariants.{IsTrie}
-use Rattle.outline_trie.proofs.KidLemmas.{children_are}
+use Rattle.outline_trie.proofs.ChildLemmas.{children_are}
 
 pub trie_made : (told entries : List (List ℕ)) (parents strokes depths numbers ps ss : List ℕ) (rows : List (List (ℕ × ℕ))) (longest : ℕ) → told ≡ entries → AreEntries entries → length entries < 2 ^ 31 → length (nodes entries) ≤ 4194304 →
     IsTable (nodes entries) parents strokes depths → IsNumbered entries (nodes entries) numbers → ps ≡ parents → ss ≡ strokes → length rows ≡ length ps →

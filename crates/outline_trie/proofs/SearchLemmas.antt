@@ -8,7 +8,7 @@ use Rattle.std.proofs.lemmas.List.Sorted.{IsNonDecreasingBy-from_default}
 use Rattle.std.proofs.lemmas.List.{get_or_default}
 use Rattle.std.proofs.lemmas.Bool.Decides.{nat_tests}
 use Rattle.outline_trie.specs.Tries.{AreChildren, child_of}
-use Rattle.outline_trie.proofs.KidLemmas.{child_there, child_none}
+use Rattle.outline_trie.proofs.ChildLemmas.{child_there, child_none}
 
 code_at : List (ℕ × ℕ) → ℕ → ℕ
 code_at row i = (get_or row i (0, 0)).0

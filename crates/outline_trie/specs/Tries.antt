@@ -7,9 +7,14 @@
 --     IsParent entries node parent  the parent has the node's strokes without the last
 --     IsLast entries node code      the last stroke of a node
 --     longest_of entries            the most strokes of an entry
+--     most_nodes                    the most nodes of a trie
 use Rattle.std.specs.Prelude.{ℕ, ◌≡◌, ◌-◌, ◌<◌, ◌↔◌, ◌++◌, ◌∷◌, [], nat_le, max, map, fold, take, drop, length, List, AllPairs, Contains, Option, Some, None, if◌then◌else◌}
 use Rattle.steno_rules.specs.Outlines.{outline_of, entry_number}
 use Rattle.steno_rules.specs.Nodes.{nodes}
+
+-- the most nodes of a trie
+abbrev pub most_nodes : ℕ
+most_nodes = 4194304
 
 abbrev pub IsNode : List (List ℕ) → ℕ → Type 0
 IsNode entries node = node < length (nodes entries)

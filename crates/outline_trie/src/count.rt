@@ -36,16 +36,16 @@ pub(crate) fn count_nodes(entries: &[Outline]) -> u64
 }
 
 /// The most strokes of an entry, and the entries told to a history.
-pub(crate) fn tell(entries: &[Outline]) -> (u32, History<Outline>)
+pub(crate) fn longest_and_history(entries: &[Outline]) -> (u32, History<Outline>)
     ensures longest { result.0 ≡ longest_of entries.now }
     ensures short { result.0 ≤ 64 }
-    ensures told { reverse result.1.items ≡ entries.now }
+    ensures history { reverse result.1.items ≡ entries.now }
 {
     let mut longest = 0;
-    let mut told = History::new();
+    let mut history = History::new();
     for outline in entries {
         longest = longest.max(outline.strokes().len() as u32);
-        told = told.and(outline);
+        history = history.and(outline);
     }
-    (longest, told)
+    (longest, history)
 }

@@ -9,6 +9,10 @@
 //! A node takes 17 bytes and 8 more if it has children, a cell of a row 8.
 #![tactic(auto)]
 
+ghost use Rattle.std.specs.Prelude.{◌≡◌};
+ghost use Rattle.outline_trie.specs.Tries.{most_nodes};
+ghost use Rattle.outline_trie.specs.declared.trie.TheConstants.Trie.{MAX_NODES};
+
 mod count;
 mod room;
 mod rows;
@@ -19,3 +23,8 @@ mod tests;
 mod trie;
 
 pub use trie::{Trie, TrieFault};
+
+/// The limit on the nodes of a trie.
+pub fn limits()
+    ensures { (MAX_NODES ≡ most_nodes) × (most_nodes ≡ 4194304) }
+{}

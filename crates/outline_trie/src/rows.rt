@@ -1,6 +1,7 @@
 //! The rows of children, in one pool.
 ghost use Rattle.std.specs.Prelude.{ℕ, ◌≡◌, ◌<◌, ◌≤◌, [], All, map, sum, length, get_or, slice_set, replicate, vec_capacity, IfOk};
 ghost use Rattle.edge_pool.specs.Pools.{zeros};
+ghost use Rattle.outline_trie.specs.Tries.{most_nodes};
 ghost use Rattle.outline_trie.specs.inside.Children.{child_count, children_among};
 ghost use Rattle.outline_trie.specs.inside.Rooms.{HasRoom};
 
@@ -37,11 +38,12 @@ pub(crate) fn rows_of(
     strokes: &[Stroke],
 ) -> Result<Rows, AllocError>
     requires some { 0 < length parents.now }
-    requires few { length parents.now ≤ 4194304 }
+    requires few { length parents.now ≤ most_nodes }
     requires long { length strokes.now ≡ length parents.now }
     requires below { All (λ p. p < length parents.now) parents.now }
     ensures long { IfOk result (λ rows. length rows ≡ length parents.now) }
-    ensures rows { IfOk result (λ rows. (node : ℕ) → node < length parents.now → get_or rows node [] ≡ children_among parents.now strokes.now node (length parents.now)) }
+    ensures rows { IfOk result (λ rows. (node : ℕ) → node < length parents.now →
+        get_or rows node [] ≡ children_among parents.now strokes.now node (length parents.now)) }
 {
     let counts = count_children(alloc, parents)?;
     let room = room_for(alloc, counts.as_slice())?;
@@ -61,10 +63,11 @@ fn zeroed(mut counts: Vec<u32>) -> Vec<u32>
 /// How many children each node has.
 fn count_children(alloc: Global, parents: &[u32]) -> Result<Vec<u32>, AllocError>
     requires some { 0 < length parents.now }
-    requires few { length parents.now ≤ 4194304 }
+    requires few { length parents.now ≤ most_nodes }
     requires below { All (λ p. p < length parents.now) parents.now }
     ensures long { IfOk result (λ counts. length counts.items ≡ length parents.now) }
-    ensures each { IfOk result (λ counts. (node : ℕ) → node < length parents.now → get_or counts.items node 0 ≡ child_count parents.now node (length parents.now)) }
+    ensures each { IfOk result (λ counts. (node : ℕ) → node < length parents.now →
+        get_or counts.items node 0 ≡ child_count parents.now node (length parents.now)) }
     ensures total { IfOk result (λ counts. sum counts.items ≤ length parents.now) }
 {
     let mut counts = vec![in alloc; 0; parents.len()]?;
@@ -76,8 +79,8 @@ fn count_children(alloc: Global, parents: &[u32]) -> Result<Vec<u32>, AllocError
 
 /// For each count a row of so many zeros.
 fn zero_rows(mut room: Room, counts: &[u32]) -> Rows
-    requires few { length counts.now ≤ 4194304 }
-    requires total { sum counts.now ≤ 4194304 }
+    requires few { length counts.now ≤ most_nodes }
+    requires total { sum counts.now ≤ most_nodes }
     requires room { HasRoom counts.now room.pool (vec_capacity room.blocks) (vec_capacity room.indexes) }
     requires blocks { room.blocks.items ≡ [] }
     requires indexes { room.indexes.items ≡ [] }
@@ -97,14 +100,16 @@ impl Rows {
     /// Writes each child into the row of its parent, in order. `filled` has a 0 for each row.
     fn fill(&mut self, parents: &[u32], strokes: &[Stroke], mut filled: Vec<u32>)
         requires some { 0 < length parents.now }
-        requires few { length parents.now ≤ 4194304 }
+        requires few { length parents.now ≤ most_nodes }
         requires long { length strokes.now ≡ length parents.now }
         requires below { All (λ p. p < length parents.now) parents.now }
         requires filled { filled.items ≡ replicate (length parents.now) 0 }
         requires rows { length self.old ≡ length parents.now }
-        requires empty { (node : ℕ) → node < length parents.now → get_or self.old node [] ≡ zeros (child_count parents.now node (length parents.now)) }
+        requires empty { (node : ℕ) → node < length parents.now →
+            get_or self.old node [] ≡ zeros (child_count parents.now node (length parents.now)) }
         ensures long { length self.new ≡ length parents.now }
-        ensures rows { (node : ℕ) → node < length parents.now → get_or self.new node [] ≡ children_among parents.now strokes.now node (length parents.now) }
+        ensures rows { (node : ℕ) → node < length parents.now →
+            get_or self.new node [] ≡ children_among parents.now strokes.now node (length parents.now) }
     {
         for child in 1..parents.len() {
             let parent = parents[child];

@@ -3,7 +3,8 @@
 ghost use Rattle.std.specs.Prelude.{ℕ, ◌≡◌, ◌+◌, ◌-◌, ◌<◌, ◌≤◌, ◌++◌, ◌∷◌, [], ◌^◌, length, take, vec_capacity, All, IfOk};
 ghost use Rattle.steno_rules.specs.Outlines.{AreEntries, outline_of};
 ghost use Rattle.steno_rules.specs.Nodes.{nodes};
-ghost use Rattle.outline_trie.specs.inside.Tables.{IsTable, IsNumbered, HasPlaces, outline_before, shared, ancestor, none_number};
+ghost use Rattle.outline_trie.specs.Tries.{most_nodes};
+ghost use Rattle.outline_trie.specs.inside.Tables.{IsTable, IsTableOf, IsNumbered, HasPlacesFor, outline_before, shared, ancestor, none_number};
 
 use crate::count::strokes_before;
 use crate::shared::shared_len;
@@ -31,8 +32,8 @@ pub(crate) fn table_of(
     requires entries { AreEntries entries.now }
     requires few { length entries.now < 2 ^ 31 }
     requires count { count ≡ length (nodes entries.now) }
-    requires bound { count ≤ 4194304 }
-    ensures table { IfOk result (λ t. IsTable (nodes entries.now) t.parents.items t.strokes.items t.depths.items) }
+    requires bound { count ≤ most_nodes }
+    ensures table { IfOk result (λ t. IsTableOf entries.now t) }
     ensures numbers { IfOk result (λ t. IsNumbered entries.now (nodes entries.now) t.numbers.items) }
 {
     let mut table = root_table(alloc, count)?;
@@ -47,7 +48,7 @@ fn root_table(alloc: Global, count: usize) -> Result<Table, AllocError>
     requires { 0 < count }
     ensures table { IfOk result (λ t. IsTable ([] ∷ []) t.parents.items t.strokes.items t.depths.items) }
     ensures numbers { IfOk result (λ t. t.numbers.items ≡ none_number ∷ []) }
-    ensures places { IfOk result (λ t. HasPlaces count (vec_capacity t.parents) (vec_capacity t.strokes) (vec_capacity t.depths) (vec_capacity t.numbers)) }
+    ensures places { IfOk result (λ t. HasPlacesFor count t) }
 {
     let mut table = Table {
         parents: Vec::with_capacity(alloc, count)?,
@@ -70,7 +71,7 @@ impl Table {
         ensures strokes { self.new.strokes.items ≡ self.old.strokes.items ++ stroke ∷ [] }
         ensures depths { self.new.depths.items ≡ self.old.depths.items ++ depth ∷ [] }
         ensures numbers { self.new.numbers.items ≡ self.old.numbers.items ++ none_number ∷ [] }
-        ensures places { (count : ℕ) → HasPlaces count (vec_capacity self.old.parents) (vec_capacity self.old.strokes) (vec_capacity self.old.depths) (vec_capacity self.old.numbers) → HasPlaces count (vec_capacity self.new.parents) (vec_capacity self.new.strokes) (vec_capacity self.new.depths) (vec_capacity self.new.numbers) }
+        ensures places { (count : ℕ) → HasPlacesFor count self.old → HasPlacesFor count self.new }
     {
         self.parents.push_reserved(parent);
         self.strokes.push_reserved(stroke);
@@ -83,13 +84,13 @@ impl Table {
         requires entries { AreEntries entries.now }
         requires few { length entries.now < 2 ^ 31 }
         requires number { number < length entries.now }
-        requires bound { length (nodes entries.now) ≤ 4194304 }
-        requires table { IsTable (nodes (take number entries.now)) self.old.parents.items self.old.strokes.items self.old.depths.items }
+        requires bound { length (nodes entries.now) ≤ most_nodes }
+        requires table { IsTableOf (take number entries.now) self.old }
         requires numbers { IsNumbered (take number entries.now) (nodes (take number entries.now)) self.old.numbers.items }
-        requires places { HasPlaces (length (nodes entries.now)) (vec_capacity self.old.parents) (vec_capacity self.old.strokes) (vec_capacity self.old.depths) (vec_capacity self.old.numbers) }
-        ensures table { IsTable (nodes (take (number + 1) entries.now)) self.new.parents.items self.new.strokes.items self.new.depths.items }
+        requires places { HasPlacesFor (length (nodes entries.now)) self.old }
+        ensures table { IsTableOf (take (number + 1) entries.now) self.new }
         ensures numbers { IsNumbered (take (number + 1) entries.now) (nodes (take (number + 1) entries.now)) self.new.numbers.items }
-        ensures places { HasPlaces (length (nodes entries.now)) (vec_capacity self.new.parents) (vec_capacity self.new.strokes) (vec_capacity self.new.depths) (vec_capacity self.new.numbers) }
+        ensures places { HasPlacesFor (length (nodes entries.now)) self.new }
     {
         let before = strokes_before(entries, number);
         let shared = shared_len(before, entries[number].strokes());
@@ -103,18 +104,18 @@ impl Table {
     fn extend(&mut self, entries: &[Outline], number: usize, from: usize, top: u32) -> u32
         requires entries { AreEntries entries.now }
         requires number { number < length entries.now }
-        requires bound { length (nodes entries.now) ≤ 4194304 }
+        requires bound { length (nodes entries.now) ≤ most_nodes }
         requires from { from ≡ shared (outline_before entries.now number) (outline_of entries.now number) }
         requires inside { top < length (nodes (take number entries.now)) }
         requires top { outline_of (nodes (take number entries.now)) top ≡ take from (outline_of entries.now number) }
-        requires table { IsTable (nodes (take number entries.now)) self.old.parents.items self.old.strokes.items self.old.depths.items }
+        requires table { IsTableOf (take number entries.now) self.old }
         requires numbers { IsNumbered (take number entries.now) (nodes (take number entries.now)) self.old.numbers.items }
-        requires places { HasPlaces (length (nodes entries.now)) (vec_capacity self.old.parents) (vec_capacity self.old.strokes) (vec_capacity self.old.depths) (vec_capacity self.old.numbers) }
-        ensures table { IsTable (nodes (take (number + 1) entries.now)) self.new.parents.items self.new.strokes.items self.new.depths.items }
+        requires places { HasPlacesFor (length (nodes entries.now)) self.old }
+        ensures table { IsTableOf (take (number + 1) entries.now) self.new }
         ensures numbers { IsNumbered (take number entries.now) (nodes (take (number + 1) entries.now)) self.new.numbers.items }
         ensures inside { result < length (nodes (take (number + 1) entries.now)) }
         ensures node { outline_of (nodes (take (number + 1) entries.now)) result ≡ outline_of entries.now number }
-        ensures places { HasPlaces (length (nodes entries.now)) (vec_capacity self.new.parents) (vec_capacity self.new.strokes) (vec_capacity self.new.depths) (vec_capacity self.new.numbers) }
+        ensures places { HasPlacesFor (length (nodes entries.now)) self.new }
     {
         let strokes = entries[number].strokes();
         let mut node = top;
@@ -130,7 +131,7 @@ impl Table {
 /// The node so many levels above the last one.
 fn climb(parents: &[u32], levels: usize) -> u32
     requires some { 0 < length parents.now }
-    requires few { length parents.now ≤ 4194304 }
+    requires few { length parents.now ≤ most_nodes }
     requires below { All (λ p. p < length parents.now) parents.now }
     ensures { result ≡ ancestor parents.now (length parents.now - 1) levels }
 {

@@ -2,13 +2,14 @@
 ghost use Rattle.std.specs.Prelude.{◌≡◌, ◌+◌, ◌-◌, ◌<◌, ◌≤◌, ◌^◌, ℕ, length, IfOk, IfErr, MatchOption};
 ghost use Rattle.steno_rules.specs.Outlines.{AreEntries, entry_number};
 ghost use Rattle.steno_rules.specs.Nodes.{nodes};
-ghost use Rattle.outline_trie.specs.Tries.{IsNode, node_strokes, child_of, AreChildren, suffix_of, IsParent, IsLast, longest_of};
+ghost use Rattle.outline_trie.specs.declared.trie.TrieFault.TheVariants.{Memory};
+ghost use Rattle.outline_trie.specs.Tries.{IsNode, node_strokes, child_of, AreChildren, suffix_of, IsParent, IsLast, longest_of, most_nodes};
 
-use crate::count::{count_nodes, tell};
+use crate::count::{count_nodes, longest_and_history};
 use crate::rows::{Rows, rows_of};
 use crate::table::{NO_ENTRY, table_of};
 use history::History;
-use std::alloc::Global;
+use std::alloc::{AllocError, Global};
 use std::marker::Model;
 use std::sync::ledger::Ledger;
 use steps::Steps;
@@ -18,12 +19,20 @@ use thiserror::Error;
 /// Why no trie was made.
 #[derive(Clone, Copy, Debug, PartialEq, Eq, Drop, Error)]
 pub enum TrieFault {
-    /// The entries have this many distinct beginnings, more than 4,194,304.
-    #[error("the entries have {count} nodes, more than 4194304")]
+    /// The entries have this many distinct beginnings, more than [`Trie::MAX_NODES`].
+    #[error("the entries have {count} nodes, more than 4,194,304")]
     TooManyNodes { count: u64 },
     /// No memory was left.
     #[error("out of memory")]
     Memory,
+}
+
+impl From<AllocError> for TrieFault {
+    ghost from_gives = { λ _ e. e ≡ Memory };
+
+    fn from(_: AllocError) -> TrieFault {
+        TrieFault::Memory
+    }
 }
 
 /// The distinct beginnings of the entries, numbered in outline order from 0, the empty one. Seen as the list of the entries.
@@ -56,25 +65,21 @@ impl Trie {
     pub const MAX_NODES: u64 = 4_194_304;
 
     /// The trie of these entries, in time linear in their strokes. `TooManyNodes` exactly where they have more than
-    /// 4,194,304 distinct beginnings, before any memory is asked for.
+    /// [`Trie::MAX_NODES`] distinct beginnings, before any memory is asked for.
     pub fn new(alloc: Global, entries: &[Outline]) -> Result<Trie, TrieFault>
         requires entries { AreEntries entries.now }
         requires few { length entries.now < 2 ^ 31 }
         ensures built { IfOk result (λ trie. trie ≡ entries.now) }
-        ensures within { IfOk result (λ trie. length (nodes entries.now) ≤ 4194304) }
+        ensures within { IfOk result (λ trie. length (nodes entries.now) ≤ most_nodes) }
         ensures cause { IfErr result (IsTrieCause (length (nodes entries.now))) }
     {
         let count = count_nodes(entries);
         if count > Trie::MAX_NODES {
             return Err(TrieFault::TooManyNodes { count });
         }
-        let Ok(table) = table_of(alloc, entries, count as usize) else {
-            return Err(TrieFault::Memory)
-        };
-        let Ok(rows) = rows_of(alloc, table.parents.as_slice(), table.strokes.as_slice()) else {
-            return Err(TrieFault::Memory)
-        };
-        let (longest, told) = tell(entries);
+        let table = table_of(alloc, entries, count as usize)?;
+        let rows = rows_of(alloc, table.parents.as_slice(), table.strokes.as_slice())?;
+        let (longest, history) = longest_and_history(entries);
         Ok(Trie {
             parents: table.parents,
             strokes: table.strokes,
@@ -82,7 +87,7 @@ impl Trie {
             numbers: table.numbers,
             rows,
             longest,
-            entries: told,
+            entries: history,
         })
     }
 

@@ -1,7 +1,7 @@
 -- The round machine: what it holds, its events, when each is enabled and what it does. Its workers take the frontier of a
 -- round in batches, in any order, and make the moves of their batches one by one, each whenever it likes.
 use Rattle.std.specs.Prelude.{ℕ, ◌+◌, ◌-◌, ◌*◌, ◌/◌, ◌<◌, ◌≤◌, ◌==◌, ◌&&◌, Bool, true, false, not, cond, nat_lt, min, List, [], ◌∷◌, ◌++◌, length, take, drop, replicate, Option, Some, None, slice_get, slice_index, slice_index_or, slice_set}
-use Rattle.graph_rules.specs.Graphs.{row, HasTarget, moved, unreached}
+use Rattle.graph_rules.specs.Graphs.{row, HasTarget, moved, unreached, most_numbers}
 use Rattle.round_core.specs.declared.event.Event.{Event}
 use Rattle.round_core.specs.declared.event.Event.TheVariants.{Begin, Take, Relax, Close}
 use Rattle.round_core.specs.Rounds.{IsBetween, IsFrontier, AreRisingNumbers}
@@ -133,9 +133,9 @@ opening origin lists workers = record {
   hands = replicate workers None;
 }
 
--- what a `StepGraph` promises: there are at most 2^25 numbers, and the start and all targets are among them
+-- what a `StepGraph` promises: there are at most `most_numbers` numbers, and the start and all targets are among them
 pub record IsGraph (origin : ℕ) (lists : List (List ℕ)) : Type 0 where
-  pub few : length lists ≤ 33554432
+  pub few : length lists ≤ most_numbers
   pub start : origin < length lists
   pub targets : (s t : ℕ) → HasTarget lists s t → t < length lists
 

@@ -6,8 +6,8 @@ ghost use Rattle.round_core.specs.Machines.{all_free, is_busy, is_free, moves_in
 use crate::step_graph::StepGraph;
 use std::alloc::{AllocError, Global};
 
-// A batch in hand: the number whose targets are left in the cursor, where the next one stands in the frontier, and how many
-// more the batch has.
+/// A batch in hand: the number whose targets are left in the cursor, where the next one stands in the frontier, and how many
+/// more the batch has.
 #[derive(Drop)]
 pub(crate) struct Hand<C: Drop> {
     pub(crate) state: u32,
@@ -16,7 +16,7 @@ pub(crate) struct Hand<C: Drop> {
     pub(crate) cursor: C,
 }
 
-// A batch of so many numbers from this place of the frontier on, before its first move.
+/// A batch of so many numbers from this place of the frontier on, before its first move.
 pub(crate) fn hand_at<G: StepGraph>(
     graph: &G,
     front: &[u32],
@@ -38,7 +38,7 @@ pub(crate) fn hand_at<G: StepGraph>(
     }
 }
 
-// The target of the next move of the batch. Its source is the number in the hand afterwards.
+/// The target of the next move of the batch. Its source is the number in the hand afterwards.
 fn advance<G: StepGraph>(graph: &G, front: &[u32], hand: &mut Hand<G::Cursor>) -> Option<u32>
     requires owned { G.owns graph.now hand.old.cursor }
     requires front { AreBelow (length (G.lists graph.now)) front.now }
@@ -57,7 +57,7 @@ fn advance<G: StepGraph>(graph: &G, front: &[u32], hand: &mut Hand<G::Cursor>) -
     next
 }
 
-// The next move of the batch that is held, its source and its target. Where none is left the batch is let go.
+/// The next move of the batch that is held, its source and its target. Where none is left the batch is let go.
 pub(crate) fn next_move<G: StepGraph>(
     graph: &G,
     front: &[u32],
@@ -79,7 +79,7 @@ pub(crate) fn next_move<G: StepGraph>(
     Some((source, target))
 }
 
-// Hands that hold nothing.
+/// Hands that hold nothing.
 pub(crate) fn free_hands<C: Drop>(
     alloc: Global,
     count: usize,
@@ -93,21 +93,21 @@ pub(crate) fn free_hands<C: Drop>(
     Ok(hands)
 }
 
-// Whether there is such a worker, and it holds nothing.
+/// Whether there is such a worker, and it holds nothing.
 pub(crate) fn is_free_hand<C: Drop>(hands: &[Option<Hand<C>>], worker: usize) -> bool
     ensures { result ≡ is_free (slice_get hands.now worker) }
 {
     worker < hands.len() && hands[worker].is_none()
 }
 
-// Whether there is such a worker, and it holds a batch.
+/// Whether there is such a worker, and it holds a batch.
 pub(crate) fn is_busy_hand<C: Drop>(hands: &[Option<Hand<C>>], worker: usize) -> bool
     ensures { result ≡ is_busy (slice_get hands.now worker) }
 {
     worker < hands.len() && hands[worker].is_some()
 }
 
-// Whether no worker holds anything.
+/// Whether no worker holds anything.
 pub(crate) fn are_free_hands<C: Drop>(hands: &[Option<Hand<C>>]) -> bool
     ensures { result ≡ all_free hands.now }
 {

@@ -3,7 +3,7 @@ ghost use Rattle.std.specs.Prelude.{◌≡◌, ◌<◌, ◌≤◌, ◌++◌, ◌
 ghost use Rattle.std.specs.Vec.{vec_capacity};
 ghost use Rattle.round_core.specs.Machines.{lowered, none_untaken, noted_with, sorted};
 
-// So many batches that nobody took, for which there is room.
+/// So many batches that nobody took, for which there is room.
 pub(crate) fn refill(untaken: &mut Vec<bool>, count: usize)
     requires { count ≤ vec_capacity untaken.old }
     ensures items { untaken.new.items ≡ replicate count true }
@@ -17,14 +17,14 @@ pub(crate) fn refill(untaken: &mut Vec<bool>, count: usize)
     }
 }
 
-// Whether there is such a batch, and nobody took it.
+/// Whether there is such a batch, and nobody took it.
 pub(crate) fn is_untaken(untaken: &[bool], batch: usize) -> bool
     ensures { result ≡ slice_index_or untaken.now batch false }
 {
     batch < untaken.len() && untaken[batch]
 }
 
-// Whether each batch was taken.
+/// Whether each batch was taken.
 pub(crate) fn are_taken(untaken: &[bool]) -> bool
     ensures { result ≡ none_untaken untaken.now }
 {
@@ -36,7 +36,7 @@ pub(crate) fn are_taken(untaken: &[bool]) -> bool
     true
 }
 
-// A number more, for which there is room.
+/// A number more, for which there is room.
 fn note(noted: &mut Vec<u32>, state: u32)
     requires { length noted.old.items < vec_capacity noted.old }
     ensures items { noted.new.items ≡ noted.old.items ++ state ∷ [] }
@@ -47,7 +47,7 @@ fn note(noted: &mut Vec<u32>, state: u32)
     }
 }
 
-// A walk to the target was found, whose word this is. The lesser word stays, and the target is noted where it is new.
+/// A walk to the target was found, whose word this is. The lesser word stays, and the target is noted where it is new.
 pub(crate) fn lower(words: &mut Vec<u64>, noted: &mut Vec<u32>, target: u32, word: u64)
     requires below { target < length words.old.items }
     requires room { length noted.old.items < vec_capacity noted.old }
@@ -62,7 +62,7 @@ pub(crate) fn lower(words: &mut Vec<u64>, noted: &mut Vec<u32>, target: u32, wor
     }
 }
 
-// The numbers in rising order.
+/// The numbers in rising order.
 pub(crate) fn rise(front: &mut Vec<u32>)
     ensures items { front.new.items ≡ sorted front.old.items }
     ensures room { vec_capacity front.new ≡ vec_capacity front.old }

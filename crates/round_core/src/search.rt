@@ -1,5 +1,6 @@
 //! The search by rounds on one thread: breadth first, with the least source of each number instead of the first one.
 ghost use Rattle.std.specs.Prelude.{◌≡◌, ◌+◌, ◌*◌, ◌<◌, ◌≤◌, length, take, IfOk};
+ghost use Rattle.graph_rules.specs.Graphs.{most_numbers, word_half};
 ghost use Rattle.round_core.specs.inside.InRounds.{IsReady, moves_of};
 ghost use Rattle.round_core.specs.Searches.{IsSearched};
 
@@ -33,8 +34,8 @@ pub fn search_plain<G: StepGraph>(alloc: Global, graph: &G) -> Result<Settled, A
     Ok(Settled::new(words, rounds, relaxed))
 }
 
-// Makes each move of the queued numbers from `begin` on, which are those at this distance, and queues the numbers that are
-// reached by them for the first time. The queue has room for all numbers. Answers how many moves it made.
+/// Makes each move of the queued numbers from `begin` on, which are those at this distance, and queues the numbers that are
+/// reached by them for the first time. The queue has room for all numbers. Answers how many moves it made.
 fn relax_round<G: StepGraph>(
     graph: &G,
     words: &mut Vec<u64>,
@@ -42,12 +43,18 @@ fn relax_round<G: StepGraph>(
     begin: usize,
     distance: u32,
 ) -> Result<u64, AllocError>
-    requires ready { IsReady (G.origin graph.now) (G.lists graph.now) distance begin words.old.items queue.old.items }
-    requires few { (length (G.lists graph.now) ≤ 33554432) × (distance < 33554432) × (begin ≤ length queue.old.items) × (length queue.old.items ≤ 33554432) }
-    ensures ready { IfOk result (λ _. IsReady (G.origin graph.now) (G.lists graph.now) (distance + 1) (length queue.old.items) words.new.items queue.new.items) }
+    requires ready { IsReady (G.origin graph.now) (G.lists graph.now) distance begin
+        words.old.items queue.old.items }
+    requires few { (length (G.lists graph.now) ≤ most_numbers) × (distance < most_numbers)
+        × (begin ≤ length queue.old.items) × (length queue.old.items ≤ most_numbers) }
+    ensures ready { IfOk result (λ _. IsReady (G.origin graph.now) (G.lists graph.now) (distance + 1)
+        (length queue.old.items) words.new.items queue.new.items) }
     ensures longer { IfOk result (λ _. take (length queue.old.items) queue.new.items ≡ queue.old.items) }
-    ensures moves { IfOk result (λ moves. moves_of (G.lists graph.now) (take begin queue.old.items) + moves ≡ moves_of (G.lists graph.now) queue.old.items) }
-    ensures bound { IfOk result (λ moves. moves + begin * 4294967296 ≤ length queue.old.items * 4294967296) }
+    ensures moves { IfOk result (λ moves.
+        moves_of (G.lists graph.now) (take begin queue.old.items) + moves
+        ≡ moves_of (G.lists graph.now) queue.old.items) }
+    ensures bound { IfOk result (λ moves.
+        moves + begin * word_half ≤ length queue.old.items * word_half) }
 {
     let end = queue.len();
     let mut moves = 0;

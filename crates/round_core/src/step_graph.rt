@@ -1,6 +1,9 @@
 //! The graphs that a search can search. A graph needn't hold its moves: it may compute each target when it is asked for.
 ghost use Rattle.std.specs.Prelude.{◌≡◌, ℕ, ◌<◌, ◌≤◌, List, [], ◌∷◌, length, MatchOption};
-ghost use Rattle.graph_rules.specs.Graphs.{row, HasTarget};
+ghost use Rattle.graph_rules.specs.Graphs.{row, HasTarget, most_numbers, word_half};
+
+/// The most numbers of a graph.
+pub const MAX_NUMBERS: u32 = 33_554_432;
 
 /// A graph of the numbers below a count, each with a list of fewer than 2^32 targets. No call takes memory.
 ///
@@ -20,11 +23,11 @@ pub trait StepGraph {
 
     ghost owns: { Self → Self.Cursor → Type 0 };
 
-    /// How many numbers there are: 1 to 33,554,432.
+    /// How many numbers there are: 1 to [`MAX_NUMBERS`].
     fn count(&self) -> u32
         ensures count { result ≡ length (lists self.now) }
         ensures some { 0 < length (lists self.now) }
-        ensures most { length (lists self.now) ≤ 33554432 }
+        ensures most { length (lists self.now) ≤ most_numbers }
         ensures targets { (s t : ℕ) → HasTarget (lists self.now) s t → t < length (lists self.now) };
 
     /// The number from which walks start.
@@ -36,13 +39,15 @@ pub trait StepGraph {
     fn first(&self, state: u32) -> Self::Cursor
         requires { state < length (lists self.now) }
         ensures whole { left self.now result ≡ row (lists self.now) state }
-        ensures few { length (row (lists self.now) state) < 4294967296 }
+        ensures few { length (row (lists self.now) state) < word_half }
         ensures mine { owns self.now result };
 
     /// The next target, None exactly where none is left.
     fn next(&self, cursor: &mut Self::Cursor) -> Option<u32>
         requires { owns self.now cursor.old }
         ensures mine { owns self.now cursor.new }
-        ensures next { MatchOption result ((left self.now cursor.old ≡ []) × (left self.now cursor.new ≡ [])) (λ t. left self.now cursor.old ≡ t ∷ left self.now cursor.new) }
+        ensures next { MatchOption result
+            ((left self.now cursor.old ≡ []) × (left self.now cursor.new ≡ []))
+            (λ t. left self.now cursor.old ≡ t ∷ left self.now cursor.new) }
         ensures below { MatchOption result (Unit {0}) (λ t. t < length (lists self.now)) };
 }

@@ -2,8 +2,8 @@
 ghost use Rattle.std.specs.Prelude.{◌≡◌, ◌<◌};
 ghost use Rattle.graph_rules.specs.Graphs.{moved};
 
-// The word of a number that was reached from `source`, to which a walk of `distance` moves goes: one move more in the high
-// half, the source in the low half. The lesser word is the shorter walk, and of two walks as long that from the lesser source.
+/// The word of a number that was reached from `source`, to which a walk of `distance` moves goes: one move more in the high
+/// half, the source in the low half. The lesser word is the shorter walk, and of two walks as long that from the lesser source.
 pub(crate) fn word_after(distance: u32, source: u32) -> u64
     requires { distance < 4294967295 }
     ensures { result ≡ moved distance source }

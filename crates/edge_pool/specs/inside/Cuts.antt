@@ -6,7 +6,8 @@
 use Rattle.std.specs.Prelude.{ℕ, zero, suc, ◌≡◌, ◌≢◌, ◌+◌, ◌<◌, ◌≤◌, nat_eq, List, [], ◌∷◌, length, take, drop, get_or, sum, Option, Some, None, if◌then◌else◌}
 use Rattle.std.specs.Ordering.{nat_cmp}
 use Rattle.std.specs.FinMap as map
-use Rattle.edge_pool.specs.Classes.{class_of, size_of}
+use Rattle.edge_pool.specs.Classes.{class_of, size_of, class_count}
+use Rattle.edge_pool.specs.Pools.{most_cells}
 use Rattle.edge_pool.specs.declared.cut.Cut.{Cut}
 
 abbrev pub block_at : List Cut → ℕ → Option (ℕ × ℕ)
@@ -34,16 +35,16 @@ IsChain cells cuts class at (suc n) = (block_at cuts at ≡ Some (class, 0)) × 
 
 -- a block lies in the cut cells, and has the class of its length
 pub record IsBlock (cut place class len : ℕ) : Type 0 where
-  pub known : class < 23
+  pub known : class < class_count
   pub within : place + size_of class ≤ cut
   pub fits : len ≤ size_of class
   pub classed : 0 < len → class_of len ≡ class
 
 pub record AreSound (cells : List (ℕ × ℕ)) (heads spare : List ℕ) (cut : ℕ) (cuts : List Cut) : Type 0 where
-  pub few : length cells ≤ 16777216
+  pub few : length cells ≤ most_cells
   pub within : cut ≤ length cells
-  pub classes : (length heads ≡ 23) × (length spare ≡ 23)
+  pub classes : (length heads ≡ class_count) × (length spare ≡ class_count)
   pub blocks : (place class len : ℕ) → block_at cuts place ≡ Some (class, len) → IsBlock cut place class len
   pub apart : (p q c d m n : ℕ) → block_at cuts p ≡ Some (c, m) → block_at cuts q ≡ Some (d, n) → p < q → p + size_of c ≤ q
-  pub free : (class : ℕ) → class < 23 → IsChain cells cuts class (get_or heads class 0) (get_or spare class 0)
+  pub free : (class : ℕ) → class < class_count → IsChain cells cuts class (get_or heads class 0) (get_or spare class 0)
   pub counted : map.len (contents cells cuts) + sum spare ≤ cut

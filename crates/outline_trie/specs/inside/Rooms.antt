@@ -7,7 +7,7 @@
 --     spare_after pool len        the free blocks of each class after a row was made
 use Rattle.std.specs.Prelude.{ℕ, zero, suc, ◌≡◌, ◌+◌, ◌-◌, ◌*◌, ◌<◌, ◌≤◌, nat_eq, List, length, get_or, if◌then◌else◌}
 use Rattle.std.specs.List.{sum_by}
-use Rattle.edge_pool.specs.Classes.{class_of, size_of}
+use Rattle.edge_pool.specs.Classes.{class_of, size_of, class_count}
 use Rattle.edge_pool.specs.Pools.{Pool, spare_of, with_spare}
 
 abbrev pub has_cells : ℕ → ℕ
@@ -27,15 +27,15 @@ weight kinds zero = 0
 weight kinds (suc n) = weight kinds n + size_of n * get_or kinds n 0
 
 pub record HasRoom (counts : List ℕ) (pool : Pool) (block_places index_places : ℕ) : Type 0 where
-  pub long : length pool.spare ≡ 23
-  pub spare : (class : ℕ) → class < 23 → rows_of_class counts class ≤ get_or pool.spare class 0
+  pub long : length pool.spare ≡ class_count
+  pub spare : (class : ℕ) → class < class_count → rows_of_class counts class ≤ get_or pool.spare class 0
   pub blocks : rows_in counts ≤ block_places
   pub indexes : length counts ≤ index_places
 
 pub record IsReserved (kinds spare : List ℕ) (classes : ℕ) : Type 0 where
-  pub long : length spare ≡ 23
+  pub long : length spare ≡ class_count
   pub done : (class : ℕ) → class < classes → get_or spare class 0 ≡ get_or kinds class 0
-  pub todo : (class : ℕ) → classes ≤ class → class < 23 → get_or spare class 0 ≡ 0
+  pub todo : (class : ℕ) → classes ≤ class → class < class_count → get_or spare class 0 ≡ 0
 
 abbrev pub spare_after : Pool → ℕ → List ℕ
 spare_after pool len = if nat_eq len 0 then pool.spare else (with_spare pool len (spare_of pool len - 1))

@@ -4,6 +4,7 @@
 --     AreRows pool blocks indexes         what the pool, the blocks and the indexes have in common
 use Rattle.std.specs.Prelude.{ℕ, ◌≡◌, ◌<◌, ◌≤◌, [], nat_eq, length, get_or, map, List, if◌then◌else◌}
 use Rattle.edge_pool.specs.Pools.{Extent, Pool, Lists, pairs_of}
+use Rattle.outline_trie.specs.Tries.{most_nodes}
 use Rattle.outline_trie.specs.inside.Tables.{none_number}
 
 -- what an index past the end reads, which no row has
@@ -17,7 +18,7 @@ abbrev pub rows_at : Pool → List Extent → List ℕ → List (List (ℕ × �
 rows_at pool blocks indexes = map (row_at pool blocks) indexes
 
 pub record AreRows (pool : Pool) (blocks : List Extent) (indexes : List ℕ) : Type 0 where
-  pub few : length indexes ≤ 4194304
+  pub few : length indexes ≤ most_nodes
   pub fewer : length blocks ≤ length indexes
   pub known : (node : ℕ) → node < length indexes → (get_or indexes node 0 ≡ none_number → ⊥) → get_or indexes node 0 < length blocks
   pub once : (m n : ℕ) → m < length indexes → n < length indexes → (get_or indexes m 0 ≡ none_number → ⊥) → get_or indexes m 0 ≡ get_or indexes n 0 → m ≡ n

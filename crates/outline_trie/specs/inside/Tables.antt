@@ -6,7 +6,10 @@
 --     ancestor parents node levels          the node so many levels above
 use Rattle.std.specs.Prelude.{ℕ, zero, suc, ◌≡◌, ◌<◌, ◌≤◌, ◌++◌, ◌∷◌, [], length, get_or, List, Option, Some, None, nat_eq}
 use Rattle.std.specs.List.{common_prefix_len}
+use Rattle.std.specs.Vec.{vec_capacity}
 use Rattle.steno_rules.specs.Outlines.{outline_of, entry_number}
+use Rattle.steno_rules.specs.Nodes.{nodes}
+use Rattle.outline_trie.specs.declared.table.Table.{Table}
 
 pub record IsStep (X : List (List ℕ)) (node parent stroke : ℕ) : Type 0 where
   pub before : parent < node
@@ -50,3 +53,12 @@ shared xs ys = common_prefix_len nat_eq xs ys
 abbrev pub outline_before : List (List ℕ) → ℕ → List ℕ
 outline_before entries zero = []
 outline_before entries (suc number) = outline_of entries number
+
+-- the columns are those of the nodes of these entries
+abbrev pub IsTableOf : List (List ℕ) → Table → Type 0
+IsTableOf entries t = IsTable (nodes entries) t.parents.items t.strokes.items t.depths.items
+
+-- they have places for so many nodes
+abbrev pub HasPlacesFor : ℕ → Table → Type 0
+HasPlacesFor count t =
+    HasPlaces count (vec_capacity t.parents) (vec_capacity t.strokes) (vec_capacity t.depths) (vec_capacity t.numbers)

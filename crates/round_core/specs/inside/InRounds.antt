@@ -1,6 +1,6 @@
 -- What holds inside a round, whatever moves were made. `todo p t` says that the move from p to t is still to be made.
 use Rattle.std.specs.Prelude.{◌≡◌, ◌≢◌, ℕ, ◌+◌, ◌*◌, ◌≤◌, ◌<◌, ◌⊎◌, List, length, slice_index, drop, sum_by}
-use Rattle.graph_rules.specs.Graphs.{row, HasTarget, IsBest, moved, unreached}
+use Rattle.graph_rules.specs.Graphs.{row, HasTarget, IsBest, moved, unreached, word_half}
 use Rattle.round_core.specs.Rounds.{Has, IsBeyond, IsNear, IsFar, IsBetween, IsFrontier}
 use Rattle.round_core.specs.Searches.{sum_reached}
 
@@ -20,7 +20,7 @@ pub record IsWithin (origin : ℕ) (lists : List (List ℕ)) (k : ℕ) (words : 
 
 -- the word is one that round k puts
 abbrev pub IsOfRound : ℕ → ℕ → Type 0
-IsOfRound k w = ((k + 1) * 4294967296 ≤ w) × (w ≢ unreached)
+IsOfRound k w = ((k + 1) * word_half ≤ w) × (w ≢ unreached)
 
 -- the same, and the noted numbers are those whose words this round put
 pub record IsNoting (origin : ℕ) (lists : List (List ℕ)) (k : ℕ) (words noted : List ℕ) (todo : ℕ → ℕ → Type 0) : Type 0 where

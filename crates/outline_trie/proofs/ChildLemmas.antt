@@ -36,10 +36,10 @@ child_told parents node child later is = plain child (get_or parents child 0) la
     plain : (c p : ℕ) → 0 < c → p ≡ node → (not (nat_eq c 0) && nat_eq p node) ≡ true
     plain c p h e = grind (arith, nat_tests)
 
-pub kid_of : (parents strokes : List ℕ) (node count : ℕ) (pair : ℕ × ℕ) → Contains (children_among parents strokes node count) pair → IsKid parents strokes node count pair
-kid_of parents strokes node zero pair h = absurd (none_in_nil pair h)
-kid_of parents strokes node (suc count) pair h =
-    by (Contains-append_cases (children_among parents strokes node count) (cond (is_child parents node count) ((get_or strokes count 1, count) ∷ []) []) pair h) (kid_of parents strokes node count pair)
+pub child_pair : (parents strokes : List ℕ) (node count : ℕ) (pair : ℕ × ℕ) → Contains (children_among parents strokes node count) pair → IsKid parents strokes node count pair
+child_pair parents strokes node zero pair h = absurd (none_in_nil pair h)
+child_pair parents strokes node (suc count) pair h =
+    by (Contains-append_cases (children_among parents strokes node count) (cond (is_child parents node count) ((get_or strokes count 1, count) ∷ []) []) pair h) (child_pair parents strokes node count pair)
   where
     new : (p : ℕ × ℕ) → (get_or strokes count 1, count) ≡ p → is_child parents node count ≡ true → IsKid parents strokes node (suc count) p
     new p same is = subst (IsKid parents strokes node (suc count)) same (record {
@@ -56,16 +56,16 @@ kid_of parents strokes node (suc count) pair h =
         let both = in_if (is_child parents node count) ((get_or strokes count 1, count) ∷ []) pair one in
         new pair (in_one (get_or strokes count 1, count) pair both.1) both.0
 
-pub of_kid : (parents strokes : List ℕ) (node count child : ℕ) → child < count → 0 < child → get_or parents child 0 ≡ node → Contains (children_among parents strokes node count) (get_or strokes child 1, child)
-of_kid parents strokes node zero child below later is = absurd (omega arith)
-of_kid parents strokes node (suc count) child below later is = elim (cases_eq child count) [
+pub of_child : (parents strokes : List ℕ) (node count child : ℕ) → child < count → 0 < child → get_or parents child 0 ≡ node → Contains (children_among parents strokes node count) (get_or strokes child 1, child)
+of_child parents strokes node zero child below later is = absurd (omega arith)
+of_child parents strokes node (suc count) child below later is = elim (cases_eq child count) [
   | inl last ↦
       Contains-append_right (children_among parents strokes node count) (cond (is_child parents node count) ((get_or strokes count 1, count) ∷ []) []) (get_or strokes child 1, child)
       (subst (λ c. Contains {X = ℕ × ℕ} (cond (is_child parents node count) ((get_or strokes count 1, count) ∷ []) []) (get_or strokes c 1, c)) (sym last)
       (rw (child_told parents node count (omega arith) (ap (λ c. get_or parents c 0) (sym last) ∙ is)) (in_first (get_or strokes count 1, count) [])))
   | inr other ↦
       Contains-append_left (children_among parents strokes node count) (cond (is_child parents node count) ((get_or strokes count 1, count) ∷ []) []) (get_or strokes child 1, child)
-      (of_kid parents strokes node count child (omega arith) later is)
+      (of_child parents strokes node count child (omega arith) later is)
 ]
 
 -- ---- their order
@@ -87,42 +87,42 @@ module _ (entries : List (List ℕ)) (parents strokes depths : List ℕ) (t : Is
   X = nodes entries
 
   -- a child is its parent and its stroke
-  kid_is : (count : ℕ) (pair : ℕ × ℕ) → IsKid parents strokes node count pair → pair.1 < length X → outline_of X pair.1 ≡ outline_of X node ++ pair.0 ∷ []
-  kid_is count pair k inside =
+  child_is : (count : ℕ) (pair : ℕ × ℕ) → IsKid parents strokes node count pair → pair.1 < length X → outline_of X pair.1 ≡ outline_of X node ++ pair.0 ∷ []
+  child_is count pair k inside =
       let s = t.step pair.1 k.later inside in
       s.is ∙ ap (λ p. outline_of X p ++ get_or strokes pair.1 1 ∷ []) k.parent ∙ ap (λ c. outline_of X node ++ c ∷ []) (sym k.stroke)
 
-  kids_rise : (count : ℕ) → count ≤ length X → AllPairs (λ a b. a.0 < b.0) (children_among parents strokes node count)
-  kids_rise zero within = λ i j d before inside. absurd (omega arith)
-  kids_rise (suc count) within = by (is_child parents node count) refl (kids_rise count (omega arith))
+  children_rise : (count : ℕ) → count ≤ length X → AllPairs (λ a b. a.0 < b.0) (children_among parents strokes node count)
+  children_rise zero within = λ i j d before inside. absurd (omega arith)
+  children_rise (suc count) within = by (is_child parents node count) refl (children_rise count (omega arith))
     where
       by : (b : Bool) → is_child parents node count ≡ b → AllPairs (λ a b. a.0 < b.0) (children_among parents strokes node count) →
           AllPairs (λ a b. a.0 < b.0) (children_among parents strokes node count ++ cond b ((get_or strokes count 1, count) ∷ []) [])
       by false is rest = rw (append-nil (children_among parents strokes node count)) rest
       by true is rest = pairs_push (λ a b. a.0 < b.0) (children_among parents strokes node count) (get_or strokes count 1, count) rest (λ x has.
-          let k = kid_of parents strokes node count x has in
+          let k = child_pair parents strokes node count x has in
           let here = told_child parents node count is in
           last_below (outline_of X node) x.0 (get_or strokes count 1) (
-          rw (← kid_is count x k (omega (arith, k.below)), ← kid_is (suc count) (get_or strokes count 1, count) (record { below = omega arith; later = here.0; parent = here.1; stroke = refl }) (omega arith))
+          rw (← child_is count x k (omega (arith, k.below)), ← child_is (suc count) (get_or strokes count 1, count) (record { below = omega arith; later = here.0; parent = here.1; stroke = refl }) (omega arith))
           (nodes-rising entries x.1 count [] k.below (omega arith))
           ))
 
-  kid_found : (pair : ℕ × ℕ) → Contains (children_among parents strokes node (length X)) pair → child_of entries node pair.0 ≡ Some pair.1
-  kid_found pair has =
-      let k = kid_of parents strokes node (length X) pair has in
-      ap (entry_number X) (sym (kid_is (length X) pair k k.below)) ∙ entry_number-outline_of X pair.1 (nodes-rising entries) k.below
+  child_found : (pair : ℕ × ℕ) → Contains (children_among parents strokes node (length X)) pair → child_of entries node pair.0 ≡ Some pair.1
+  child_found pair has =
+      let k = child_pair parents strokes node (length X) pair has in
+      ap (entry_number X) (sym (child_is (length X) pair k k.below)) ∙ entry_number-outline_of X pair.1 (nodes-rising entries) k.below
 
   root_is : outline_of X 0 ≡ []
   root_is = ap (λ ys. outline_of ys 0) (nodes-first entries).1
 
-  found_kid : (code child : ℕ) → node < length X → child_of entries node code ≡ Some child → Contains (children_among parents strokes node (length X)) (code, child)
-  found_kid code child inside h =
+  found_child : (code child : ℕ) → node < length X → child_of entries node code ≡ Some child → Contains (children_among parents strokes node (length X)) (code, child)
+  found_child code child inside h =
       let found = entry_number-Some X (outline_of X node ++ code ∷ []) child h in
       let later : 0 < child = not_root child found.1 in
       let s = t.step child later found.0 in
       let both = same_from_push (outline_of X (get_or parents child 0)) (outline_of X node) (get_or strokes child 1) code (sym s.is ∙ found.1) in
       let above : get_or parents child 0 ≡ node = outline_of-once X (get_or parents child 0) node (nodes-rising entries) (omega (arith, s.before, found.0)) inside both.0 in
-      subst (λ c. Contains (children_among parents strokes node (length X)) (c, child)) both.1 (of_kid parents strokes node (length X) child found.0 later above)
+      subst (λ c. Contains (children_among parents strokes node (length X)) (c, child)) both.1 (of_child parents strokes node (length X) child found.0 later above)
     where
       not_root : (c : ℕ) → outline_of X c ≡ outline_of X node ++ code ∷ [] → 0 < c
       not_root zero same = absurd (omega (arith, ap length (sym root_is ∙ same), length_push (outline_of X node) code))
@@ -130,8 +130,8 @@ module _ (entries : List (List ℕ)) (parents strokes depths : List ℕ) (t : Is
 
   pub children_are : node < length X → AreChildren entries node (children_among parents strokes node (length X))
   children_are inside = record {
-    rising = kids_rise (length X) (omega arith);
-    each = λ code child. (kid_found (code, child), found_kid code child inside);
+    rising = children_rise (length X) (omega arith);
+    each = λ code child. (child_found (code, child), found_child code child inside);
   }
 
 -- ---- a child is found in a row
