@@ -8,7 +8,7 @@ pub record IsReading (name : List ℕ) (limit turns : ℕ) (old now : FilesView)
   pub writing : now.writing ≡ old.writing
   pub opened : now.opened ≡ Some name
   pub latest : now.latest ≡ old.latest
-  pub later : old.faults ≤ now.faults
+  pub faults : now.faults ≡ old.faults
   pub content : option_map (λ held. held name) old.held ≡ prepend_known bytes now.rest
   pub took : turns ≤ length bytes
   pub within : length bytes ≤ limit

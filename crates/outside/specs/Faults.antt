@@ -1,5 +1,5 @@
 -- Counts of faults, and which answers tell of one.
-use Rattle.std.specs.Prelude.{ℕ, ◌+◌, ◌-◌, ◌^◌, ◌≤◌, min, Bool, true, false, Result, Ok, Err}
+use Rattle.std.specs.Prelude.{ℕ, ◌+◌, ◌-◌, ◌^◌, ◌≤◌, ◌≡◌, min, Bool, true, false, Result, Ok, Err}
 use Rattle.outside.specs.declared.fault.OutsideFault.{OutsideFault}
 use Rattle.outside.specs.declared.fault.OutsideFault.TheVariants.{Failed, Memory}
 use Rattle.outside.specs.declared.fault.ReadFault.{ReadFault}
@@ -8,6 +8,10 @@ use Rattle.outside.specs.declared.fault.ReadFault.TheVariants as read
 -- the count is greater now, or stands at its last value
 abbrev pub Rose : ℕ → ℕ → Type 0
 Rose before now = min (before + 1) (2 ^ 64 - 1) ≤ now
+
+-- a call that doesn't answer with a fault leaves the count
+abbrev pub Steady : Bool → ℕ → ℕ → Type 0
+Steady failed before now = failed ≡ false → now ≡ before
 
 -- the answer tells of a fault
 abbrev pub is_failed : {T : Type 0} → Result T OutsideFault → Bool

@@ -1,5 +1,5 @@
 -- What contracts see of an object that holds files.
-use Rattle.std.specs.Prelude.{ℕ, List, [], ◌++◌, ◌≡◌, ◌≢◌, ◌≤◌, take, Option, None, Some, option_map, ⊤, length}
+use Rattle.std.specs.Prelude.{ℕ, List, [], ◌++◌, ◌≡◌, ◌≢◌, ◌≤◌, ◌⊎◌, take, Option, None, Some, option_map, ⊤, length}
 use Rattle.outside.specs.Faults.{Rose}
 use Rattle.outside.specs.declared.fault.Way.{Way}
 
@@ -34,6 +34,10 @@ pub record LeavesAll (old new : FilesView) : Type 0 where
 pub record LeavesFiles (old new : FilesView) : Type 0 where
   pub held : new.held ≡ old.held
   pub writing : new.writing ≡ old.writing
+
+-- the name last opened is this one, or as it was
+abbrev pub IsLastOpened : List ℕ → FilesView → FilesView → Type 0
+IsLastOpened name old new = (new.opened ≡ Some name) ⊎ (new.opened ≡ old.opened)
 
 -- a fault at this place in a call: the count rose in it, and this is the place of the latest one at its end
 pub record FaultAt (name : List ℕ) (way : Way) (old new : FilesView) : Type 0 where

@@ -2,7 +2,7 @@
 
 ghost use Rattle.std.specs.Prelude.{◌≡◌, ◌<◌, ◌≤◌, ℕ, List, [], length, take, IfOk, OnOk, OnErr, IfSome, IsSome, IsTrue, option_map, Some, None, if◌then◌else◌, is_ok, is_err};
 ghost use Rattle.std.specs.Io.KnownBytes.{prepend_known};
-ghost use Rattle.outside.specs.Faults.{Rose, is_failed, is_memory};
+ghost use Rattle.outside.specs.Faults.{Rose, Steady, is_failed, is_memory};
 ghost use Rattle.outside.specs.Files.{FilesView, LeavesAll, Both, Replaces, Extends};
 
 use crate::{Failed, OutsideFault, Way};
@@ -11,7 +11,8 @@ use crate::{Failed, OutsideFault, Way};
 ///
 /// Contracts see six things: the files' bytes and the rest of the one that is being read, where the object tells them; the
 /// name last opened and the name that is being written; the place of the latest fault; and the count of faults. The count
-/// never falls. A call that answers `Failed` has raised it, or has found it at its last value 2^64 - 1, where it stays.
+/// never falls. A call that answers `Failed` has raised it, or has found it at its last value 2^64 - 1, where it stays. No
+/// other call changes it.
 pub trait Files {
     ghost view: { Self → FilesView };
 
@@ -24,7 +25,8 @@ pub trait Files {
         ensures opened { (view self.new).opened ≡ (if is_memory result then (view self.old).opened else Some name.now) }
         ensures latest { (view self.new).latest ≡ (if is_failed result then Some (name.now, Way.Reading) else (view self.old).latest) }
         ensures later { (view self.old).faults ≤ (view self.new).faults }
-        ensures failed { IsTrue (is_failed result) → Rose (view self.old).faults (view self.new).faults };
+        ensures failed { IsTrue (is_failed result) → Rose (view self.old).faults (view self.new).faults }
+        ensures steady { Steady (is_failed result) (view self.old).faults (view self.new).faults };
 
     /// Moves the first bytes of the rest to the front of the slice, and answers how many: for a slice that isn't empty, 0
     /// exactly at the end. A refusal moves none, and comes only after a name was opened.
@@ -37,7 +39,8 @@ pub trait Files {
         ensures has_name { OnErr result (IsSome (view self.old).opened) }
         ensures latest { (view self.new).latest ≡ (if is_err result then option_map (λ name. (name, Way.Reading)) (view self.old).opened else (view self.old).latest) }
         ensures later { (view self.old).faults ≤ (view self.new).faults }
-        ensures failed { OnErr result (Rose (view self.old).faults (view self.new).faults) };
+        ensures failed { OnErr result (Rose (view self.old).faults (view self.new).faults) }
+        ensures steady { Steady (is_err result) (view self.old).faults (view self.new).faults };
 
     /// Begins to write a file, which becomes empty. After a refusal all files are as they were and none is being written.
     /// The rest is empty afterwards in each case.
@@ -49,7 +52,8 @@ pub trait Files {
         ensures rest { (view self.new).rest ≡ option_map (λ _. []) (view self.old).held }
         ensures latest { (view self.new).latest ≡ (if is_failed result then Some (name.now, Way.Writing) else (view self.old).latest) }
         ensures later { (view self.old).faults ≤ (view self.new).faults }
-        ensures failed { IsTrue (is_failed result) → Rose (view self.old).faults (view self.new).faults };
+        ensures failed { IsTrue (is_failed result) → Rose (view self.old).faults (view self.new).faults }
+        ensures steady { Steady (is_failed result) (view self.old).faults (view self.new).faults };
 
     /// Adds the first bytes of the piece to the file that is being written, and answers how many: at least 1. A refusal adds
     /// none.
@@ -64,7 +68,8 @@ pub trait Files {
         ensures opened { (view self.new).opened ≡ (view self.old).opened }
         ensures latest { (view self.new).latest ≡ (if is_failed result then option_map (λ name. (name, Way.Writing)) (view self.old).writing else (view self.old).latest) }
         ensures later { (view self.old).faults ≤ (view self.new).faults }
-        ensures failed { IsTrue (is_failed result) → Rose (view self.old).faults (view self.new).faults };
+        ensures failed { IsTrue (is_failed result) → Rose (view self.old).faults (view self.new).faults }
+        ensures steady { Steady (is_failed result) (view self.old).faults (view self.new).faults };
 
     /// Ends the writing. Afterwards no file is being written, also after a refusal.
     fn end(&mut self) -> Result<(), Failed>
@@ -74,5 +79,6 @@ pub trait Files {
         ensures opened { (view self.new).opened ≡ (view self.old).opened }
         ensures latest { (view self.new).latest ≡ (if is_err result then option_map (λ name. (name, Way.Writing)) (view self.old).writing else (view self.old).latest) }
         ensures later { (view self.old).faults ≤ (view self.new).faults }
-        ensures failed { OnErr result (Rose (view self.old).faults (view self.new).faults) };
+        ensures failed { OnErr result (Rose (view self.old).faults (view self.new).faults) }
+        ensures steady { Steady (is_err result) (view self.old).faults (view self.new).faults };
 }

@@ -2,7 +2,7 @@
 
 ghost use Rattle.std.specs.Prelude.{◌≡◌, ◌<◌, ◌≤◌, ◌++◌, ◌&&◌, ◌||◌, ℕ, [], length, take, IfOk, OnOk, OnErr, IfSome, IsSome, IsTrue, option_map, Some, None, if◌then◌else◌, is_ok, is_err, is_some, is_none};
 ghost use Rattle.std.specs.Io.KnownBytes.{prepend_known};
-ghost use Rattle.outside.specs.Faults.{Rose, is_failed, is_memory};
+ghost use Rattle.outside.specs.Faults.{Rose, Steady, is_failed, is_memory};
 ghost use Rattle.outside.specs.Files.{LeavesAll, Both, Replaces, Extends, untouched};
 ghost use Rattle.outside.specs.HeldFiles.{held_of, Sets};
 ghost use Rattle.outside.specs.Mem.{mem_kept, mem_script, mem_view};
@@ -78,6 +78,7 @@ impl Files for MemFiles {
         ensures latest { (mem_view self.new).latest ≡ (if is_failed result then Some (name.now, Way.Reading) else (mem_view self.old).latest) }
         ensures later { (mem_view self.old).faults ≤ (mem_view self.new).faults }
         ensures failed { IsTrue (is_failed result) → Rose (mem_view self.old).faults (mem_view self.new).faults }
+        ensures steady { Steady (is_failed result) (mem_view self.old).faults (mem_view self.new).faults }
         ensures kept { mem_kept self.new ≡ mem_kept self.old }
         ensures script { mem_script self.new ≡ counted (mem_script self.old) }
         ensures due { AsDue (is_listed (mem_script self.old) || is_none (mem_kept self.old name.now)) result }
@@ -104,6 +105,7 @@ impl Files for MemFiles {
         ensures latest { (mem_view self.new).latest ≡ (if is_err result then option_map (λ name. (name, Way.Reading)) (mem_view self.old).opened else (mem_view self.old).latest) }
         ensures later { (mem_view self.old).faults ≤ (mem_view self.new).faults }
         ensures failed { OnErr result (Rose (mem_view self.old).faults (mem_view self.new).faults) }
+        ensures steady { Steady (is_err result) (mem_view self.old).faults (mem_view self.new).faults }
         ensures kept { mem_kept self.new ≡ mem_kept self.old }
         ensures script { mem_script self.new ≡ counted (mem_script self.old) }
         ensures due { is_err result ≡ (is_listed (mem_script self.old) && is_some (mem_view self.old).opened) }
@@ -124,6 +126,7 @@ impl Files for MemFiles {
         ensures latest { (mem_view self.new).latest ≡ (if is_failed result then Some (name.now, Way.Writing) else (mem_view self.old).latest) }
         ensures later { (mem_view self.old).faults ≤ (mem_view self.new).faults }
         ensures failed { IsTrue (is_failed result) → Rose (mem_view self.old).faults (mem_view self.new).faults }
+        ensures steady { Steady (is_failed result) (mem_view self.old).faults (mem_view self.new).faults }
         ensures begun { OnOk result (Sets name.now [] (mem_kept self.old) (mem_kept self.new)) }
         ensures kept { OnErr result (mem_kept self.new ≡ mem_kept self.old) }
         ensures script { mem_script self.new ≡ counted (mem_script self.old) }
@@ -153,6 +156,7 @@ impl Files for MemFiles {
         ensures latest { (mem_view self.new).latest ≡ (if is_failed result then option_map (λ name. (name, Way.Writing)) (mem_view self.old).writing else (mem_view self.old).latest) }
         ensures later { (mem_view self.old).faults ≤ (mem_view self.new).faults }
         ensures failed { IsTrue (is_failed result) → Rose (mem_view self.old).faults (mem_view self.new).faults }
+        ensures steady { Steady (is_failed result) (mem_view self.old).faults (mem_view self.new).faults }
         ensures grown { IfOk result (λ n. IfSome (mem_view self.old).writing (λ name. Sets name (held_of (mem_kept self.old) name ++ take n piece.now) (mem_kept self.old) (mem_kept self.new))) }
         ensures kept { OnErr result (mem_kept self.new ≡ mem_kept self.old) }
         ensures script { mem_script self.new ≡ counted (mem_script self.old) }
@@ -176,6 +180,7 @@ impl Files for MemFiles {
         ensures latest { (mem_view self.new).latest ≡ (if is_err result then option_map (λ name. (name, Way.Writing)) (mem_view self.old).writing else (mem_view self.old).latest) }
         ensures later { (mem_view self.old).faults ≤ (mem_view self.new).faults }
         ensures failed { OnErr result (Rose (mem_view self.old).faults (mem_view self.new).faults) }
+        ensures steady { Steady (is_err result) (mem_view self.old).faults (mem_view self.new).faults }
         ensures kept { mem_kept self.new ≡ mem_kept self.old }
         ensures script { mem_script self.new ≡ counted (mem_script self.old) }
         ensures due { is_err result ≡ is_listed (mem_script self.old) }

@@ -2,7 +2,7 @@
 
 ghost use Rattle.std.specs.Prelude.{◌≡◌, ◌<◌, ◌≤◌, [], length, take, IfOk, OnErr, IsTrue, Some};
 ghost use Rattle.std.specs.Io.KnownBytes.{append_known};
-ghost use Rattle.outside.specs.Faults.{Rose, is_failed};
+ghost use Rattle.outside.specs.Faults.{Rose, Steady, is_failed};
 ghost use Rattle.outside.specs.Script.{AsDue, counted, is_listed, no_script};
 
 use crate::script::Script;
@@ -71,6 +71,7 @@ impl Sink for MemSink {
         ensures refused { OnErr result (Some self.new.text ≡ Some self.old.text) }
         ensures later { self.old.faults ≤ self.new.faults }
         ensures failed { IsTrue (is_failed result) → Rose self.old.faults self.new.faults }
+        ensures steady { Steady (is_failed result) self.old.faults self.new.faults }
         ensures script { self.new.script ≡ counted self.old.script }
         ensures due { AsDue (is_listed self.old.script) result }
     {

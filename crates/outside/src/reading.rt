@@ -1,8 +1,8 @@
 //! A whole file, read over calls that give as much as they like.
 
 ghost use Rattle.std.specs.Prelude.{◌≡◌, ◌<◌, ◌≤◌, ◌^◌, length, IfOk, IfSome, IsErrOf, Some, if◌then◌else◌};
-ghost use Rattle.outside.specs.Faults.{is_read_failed};
-ghost use Rattle.outside.specs.Files.{LeavesFiles, FaultAt};
+ghost use Rattle.outside.specs.Faults.{Steady, is_read_failed};
+ghost use Rattle.outside.specs.Files.{LeavesFiles, FaultAt, IsLastOpened};
 
 use crate::{Files, OutsideFault, ReadFault, Way};
 use std::alloc::{AllocError, Global};
@@ -33,9 +33,11 @@ pub fn read_all<F: Files>(
     ensures within { IfOk result (λ v. length v.items ≤ limit) }
     ensures too_long { IsErrOf result ReadFault.TooLong → IfSome (F.view files.old).held (λ held. limit < length (held name.now)) }
     ensures leaves { LeavesFiles (F.view files.old) (F.view files.new) }
+    ensures opened { IsLastOpened name.now (F.view files.old) (F.view files.new) }
     ensures latest { (F.view files.new).latest ≡ (if is_read_failed result then Some (name.now, Way.Reading) else (F.view files.old).latest) }
     ensures later { (F.view files.old).faults ≤ (F.view files.new).faults }
     ensures failed { IsErrOf result ReadFault.Failed → FaultAt name.now Way.Reading (F.view files.old) (F.view files.new) }
+    ensures steady { Steady (is_read_failed result) (F.view files.old).faults (F.view files.new).faults }
 {
     let Ok(mut buffer) = piece_buffer(alloc) else {
         return Err(ReadFault::Memory);

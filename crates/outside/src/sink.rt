@@ -3,12 +3,13 @@
 ghost use Rattle.std.specs.Prelude.{◌≡◌, ◌<◌, ◌≤◌, ℕ, List, length, take, IfOk, OnErr, IsTrue};
 ghost use Rattle.std.specs.declared.option.Option.{Option};
 ghost use Rattle.std.specs.Io.KnownBytes.{append_known};
-ghost use Rattle.outside.specs.Faults.{Rose, is_failed};
+ghost use Rattle.outside.specs.Faults.{Rose, Steady, is_failed};
 
 use crate::OutsideFault;
 
 /// An output. Contracts see the text put so far, where the object tells it, and the count of faults, which never falls. A call
-/// that answers `Failed` has raised the count, or has found it at its last value 2^64 - 1, where it stays.
+/// that answers `Failed` has raised the count, or has found it at its last value 2^64 - 1, where it stays. No other call
+/// changes it.
 pub trait Sink {
     ghost text: { Self → Option (List ℕ) };
 
@@ -22,5 +23,6 @@ pub trait Sink {
         ensures appends { IfOk result (λ n. text self.new ≡ append_known (text self.old) (take n piece.now)) }
         ensures refused { OnErr result (text self.new ≡ text self.old) }
         ensures later { faults self.old ≤ faults self.new }
-        ensures failed { IsTrue (is_failed result) → Rose (faults self.old) (faults self.new) };
+        ensures failed { IsTrue (is_failed result) → Rose (faults self.old) (faults self.new) }
+        ensures steady { Steady (is_failed result) (faults self.old) (faults self.new) };
 }

@@ -2,7 +2,7 @@
 
 ghost use Rattle.std.specs.Prelude.{◌≡◌, ◌≤◌, length, OnOk, OnErr, IfSome, IsSome, IsTrue, option_map, if◌then◌else◌};
 ghost use Rattle.std.specs.Io.KnownBytes.{append_known};
-ghost use Rattle.outside.specs.Faults.{Rose, is_failed};
+ghost use Rattle.outside.specs.Faults.{Rose, Steady, is_failed};
 ghost use Rattle.outside.specs.Files.{FaultAt, Both, Extends, ExtendsByPrefix};
 ghost use Rattle.outside.specs.Sink.{AppendsPrefix};
 
@@ -14,6 +14,7 @@ pub fn write_all<S: Sink>(sink: &mut S, bytes: &[u8]) -> Result<(), OutsideFault
     ensures prefix { OnErr result (AppendsPrefix (S.text sink.old) (S.text sink.new) bytes.now) }
     ensures later { S.faults sink.old ≤ S.faults sink.new }
     ensures failed { IsTrue (is_failed result) → Rose (S.faults sink.old) (S.faults sink.new) }
+    ensures steady { Steady (is_failed result) (S.faults sink.old) (S.faults sink.new) }
 {
     let mut done = 0;
     while done < bytes.len() {
@@ -33,6 +34,7 @@ pub fn write_all_file<F: Files>(files: &mut F, bytes: &[u8]) -> Result<(), Outsi
     ensures latest { (F.view files.new).latest ≡ (if is_failed result then option_map (λ name. (name, Way.Writing)) (F.view files.old).writing else (F.view files.old).latest) }
     ensures later { (F.view files.old).faults ≤ (F.view files.new).faults }
     ensures failed { IsTrue (is_failed result) → IfSome (F.view files.old).writing (λ name. FaultAt name Way.Writing (F.view files.old) (F.view files.new)) }
+    ensures steady { Steady (is_failed result) (F.view files.old).faults (F.view files.new).faults }
 {
     let mut done = 0;
     while done < bytes.len() {

@@ -1,4 +1,4 @@
-use Rattle.std.proofs.Common.{arith}
+use Rattle.std.proofs.Common.{◌∙◌, arith, refl}
 use Rattle.outside.proofs.Known.{append_known-more}
 use Rattle.outside.proofs.writing.write_all.Goals as goal
 
@@ -8,5 +8,5 @@ loop-done-preserved g c =
     record {
       within = grind (arith, taken);
       text = append_known-more _ _ _ _ _ _ c.loop-done.invariant.text c.in_ok-done.ensures.appends;
-      later = omega (arith, c.loop-done.invariant.later, c.put.ensures.later);
+      faults = c.in_ok-done.ensures.steady refl ∙ c.loop-done.invariant.faults;
     }

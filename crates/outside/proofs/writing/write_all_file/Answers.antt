@@ -1,4 +1,4 @@
-use Rattle.std.proofs.Common.{arith, ◌∙◌}
+use Rattle.std.proofs.Common.{◌∙◌, arith, refl}
 use Rattle.outside.proofs.Extended.{IfSome-Extends-more}
 use Rattle.outside.proofs.writing.write_all_file.Goals as goal
 
@@ -11,5 +11,5 @@ loop-done-preserved g c =
       writing = c.put.ensures.writing ∙ c.loop-done.invariant.writing;
       opened = c.put.ensures.opened ∙ c.loop-done.invariant.opened;
       latest = c.in_ok-done.ensures.latest ∙ c.loop-done.invariant.latest;
-      later = omega (arith, c.loop-done.invariant.later, c.put.ensures.later);
+      faults = c.in_ok-done.ensures.steady refl ∙ c.loop-done.invariant.faults;
     }

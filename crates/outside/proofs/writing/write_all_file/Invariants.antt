@@ -9,7 +9,7 @@ invariant-loop-done g l = record {
   writing : (g.F.Files.view l.files).writing ≡ (g.F.Files.view l.fn.files).writing;
   opened : (g.F.Files.view l.files).opened ≡ (g.F.Files.view l.fn.files).opened;
   latest : (g.F.Files.view l.files).latest ≡ (g.F.Files.view l.fn.files).latest;
-  later : (g.F.Files.view l.fn.files).faults ≤ (g.F.Files.view l.files).faults;
+  faults : (g.F.Files.view l.files).faults ≡ (g.F.Files.view l.fn.files).faults;
 }
 
 abbrev pub decreases-loop-done : goal.decreases-loop-done
