@@ -5,7 +5,7 @@ use Rattle.std.specs.BTreeMap.{BTreeMap, get_by_text}
 use Rattle.std.specs.declared.alloc.Global.{Global}
 use Rattle.outside.specs.Files.{Held, FilesView}
 use Rattle.outside.specs.Places.{PlacesView, no_places}
-use Rattle.outside.specs.declared.held_files.HeldFiles.{HeldFiles}
+use Rattle.outside.specs.declared.memory.held_files.HeldFiles.{HeldFiles}
 
 -- the bytes of each name that is held
 abbrev pub Kept : Type 0

@@ -3,8 +3,8 @@ use Rattle.std.specs.Prelude.{ℕ, List, None}
 use Rattle.outside.specs.Files.{FilesView}
 use Rattle.outside.specs.HeldFiles.{Kept, held_view, files_view}
 use Rattle.outside.specs.Script.{ScriptView}
-use Rattle.outside.specs.declared.mem_files.MemFiles.{MemFiles}
-use Rattle.outside.specs.declared.plain_files.PlainFiles.{PlainFiles}
+use Rattle.outside.specs.declared.memory.mem_files.MemFiles.{MemFiles}
+use Rattle.outside.specs.declared.memory.plain_files.PlainFiles.{PlainFiles}
 
 -- the files with the names that are held, which the trait's view doesn't tell from those without bytes
 abbrev pub mem_kept : MemFiles → Kept

@@ -14,28 +14,18 @@
 
 mod fault;
 mod files;
-mod held_files;
-mod mem_files;
-mod mem_sink;
+mod memory;
 mod places;
-mod plain_files;
-mod plain_sink;
 mod reading;
-mod real_files;
-mod real_sink;
-mod script;
+mod real;
 mod sink;
 mod writing;
 
 pub use fault::{Failed, OutsideFault, ReadFault, Way};
 pub use files::Files;
-pub use mem_files::MemFiles;
-pub use mem_sink::MemSink;
-pub use plain_files::PlainFiles;
-pub use plain_sink::PlainSink;
+pub use memory::{MemFiles, MemSink, PlainFiles, PlainSink};
 pub use reading::read_all;
-pub use real_files::RealFiles;
-pub use real_sink::RealSink;
+pub use real::{RealFiles, RealSink};
 pub use sink::Sink;
 pub use writing::{write_all, write_all_file};
 

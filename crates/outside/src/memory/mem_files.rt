@@ -1,6 +1,6 @@
 //! Files in memory that fail where they are told to, for tests of what stands above.
 
-ghost use Rattle.std.specs.Prelude.{◌≡◌, ◌<◌, ◌≤◌, ◌++◌, ◌&&◌, ◌||◌, ℕ, [], length, take, IfOk, OnOk, OnErr, IfSome, IsSome, IsTrue, option_map, Some, None, if◌then◌else◌, is_ok, is_err, is_some, is_none};
+ghost use Rattle.std.specs.Prelude.{◌≡◌, ◌<◌, ◌≤◌, ◌++◌, ◌&&◌, ◌||◌, ℕ, [], length, take, min, IfOk, OnOk, OnErr, IfSome, IsSome, IsTrue, option_map, Some, None, if◌then◌else◌, is_ok, is_err, is_some, is_none};
 ghost use Rattle.std.specs.Io.KnownBytes.{prepend_known};
 ghost use Rattle.outside.specs.Faults.{Rose, Steady, is_failed, is_memory};
 ghost use Rattle.outside.specs.Files.{LeavesAll, Both, Replaces, Extends, untouched};
@@ -8,8 +8,8 @@ ghost use Rattle.outside.specs.HeldFiles.{held_of, Sets};
 ghost use Rattle.outside.specs.Mem.{mem_kept, mem_script, mem_view};
 ghost use Rattle.outside.specs.Script.{AsDue, counted, is_listed, no_script};
 
-use crate::held_files::HeldFiles;
-use crate::script::Script;
+use crate::memory::held_files::HeldFiles;
+use crate::memory::script::Script;
 use crate::{Failed, Files, OutsideFault, Way};
 use std::alloc::{AllocError, Global};
 
@@ -63,8 +63,8 @@ impl MemFiles {
     }
 }
 
-/// Each clause of the trait, and three more: which names are held, the count of calls, and that a call fails exactly where it
-/// is listed, or opens a name that isn't held.
+/// Each clause of the trait, and four more: a call moves all that it can, which names are held, the count of calls, and that
+/// a call fails exactly where it is listed, or opens a name that isn't held.
 impl Files for MemFiles {
     ghost use Rattle.outside.specs.Mem.{mem_view};
 
@@ -106,6 +106,7 @@ impl Files for MemFiles {
         ensures later { (mem_view self.old).faults ≤ (mem_view self.new).faults }
         ensures failed { OnErr result (Rose (mem_view self.old).faults (mem_view self.new).faults) }
         ensures steady { Steady (is_err result) (mem_view self.old).faults (mem_view self.new).faults }
+        ensures all { IfOk result (λ n. IfSome (mem_view self.old).rest (λ rest. n ≡ min (length into.new) (length rest))) }
         ensures kept { mem_kept self.new ≡ mem_kept self.old }
         ensures script { mem_script self.new ≡ counted (mem_script self.old) }
         ensures due { is_err result ≡ (is_listed (mem_script self.old) && is_some (mem_view self.old).opened) }
@@ -158,6 +159,7 @@ impl Files for MemFiles {
         ensures failed { IsTrue (is_failed result) → Rose (mem_view self.old).faults (mem_view self.new).faults }
         ensures steady { Steady (is_failed result) (mem_view self.old).faults (mem_view self.new).faults }
         ensures grown { IfOk result (λ n. IfSome (mem_view self.old).writing (λ name. Sets name (held_of (mem_kept self.old) name ++ take n piece.now) (mem_kept self.old) (mem_kept self.new))) }
+        ensures all { IfOk result (λ n. n ≡ length piece.now) }
         ensures kept { OnErr result (mem_kept self.new ≡ mem_kept self.old) }
         ensures script { mem_script self.new ≡ counted (mem_script self.old) }
         ensures due { AsDue (is_listed (mem_script self.old)) result }

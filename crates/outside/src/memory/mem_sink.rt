@@ -5,7 +5,7 @@ ghost use Rattle.std.specs.Io.KnownBytes.{append_known};
 ghost use Rattle.outside.specs.Faults.{Rose, Steady, is_failed};
 ghost use Rattle.outside.specs.Script.{AsDue, counted, is_listed, no_script};
 
-use crate::script::Script;
+use crate::memory::script::Script;
 use crate::{OutsideFault, Sink};
 use std::alloc::Global;
 use std::marker::Model;
@@ -55,7 +55,8 @@ impl MemSink {
     }
 }
 
-/// Each clause of the trait, and two more: the count of calls, and that a call fails exactly where it is listed.
+/// Each clause of the trait, and three more: a call takes all that it is given, the count of calls, and that a call fails
+/// exactly where it is listed.
 impl Sink for MemSink {
     ghost use Rattle.std.specs.Prelude.{Some};
 
@@ -72,6 +73,7 @@ impl Sink for MemSink {
         ensures later { self.old.faults ≤ self.new.faults }
         ensures failed { IsTrue (is_failed result) → Rose self.old.faults self.new.faults }
         ensures steady { Steady (is_failed result) self.old.faults self.new.faults }
+        ensures all { IfOk result (λ n. n ≡ length piece.now) }
         ensures script { self.new.script ≡ counted self.old.script }
         ensures due { AsDue (is_listed self.old.script) result }
     {

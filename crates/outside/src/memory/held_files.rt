@@ -1,6 +1,6 @@
 //! Files in memory, whose calls never fail but for want of memory: what `MemFiles` and `PlainFiles` are made of.
 
-ghost use Rattle.std.specs.Prelude.{◌≡◌, ◌≤◌, ◌<◌, ◌++◌, ℕ, List, [], Some, OnOk, OnErr, IfOk, IsSome, IfSome, is_some, option_map, length, take, drop};
+ghost use Rattle.std.specs.Prelude.{◌≡◌, ◌≤◌, ◌<◌, ◌++◌, ℕ, List, [], Some, OnOk, OnErr, IfOk, IsSome, IfSome, is_some, option_map, length, take, drop, min};
 ghost use Rattle.std.specs.Option.{unwrap_or};
 ghost use Rattle.outside.specs.Places.{raised};
 ghost use Rattle.outside.specs.HeldFiles.{held_of, held_view, kept_in, no_files, Sets};
@@ -77,7 +77,7 @@ fn copy_front(from: &[u8], into: &mut [u8]) -> usize
     ensures bound { result ≤ length into.new }
     ensures within { result ≤ length from.now }
     ensures moved { take result into.new ≡ take result from.now }
-    ensures all { result ≡ 0 → 0 < length into.new → length from.now ≡ 0 }
+    ensures all { result ≡ min (length into.new) (length from.now) }
 {
     let count = from.len().min(into.len());
     into[..count].copy_from_slice(&from[..count]);
@@ -133,6 +133,7 @@ impl HeldFiles {
         ensures bound { result ≤ length into.new }
         ensures moved { (held_view self.old).rest ≡ take result into.new ++ (held_view self.new).rest }
         ensures end { result ≡ 0 → 0 < length into.new → (held_view self.old).rest ≡ [] }
+        ensures all { result ≡ min (length into.new) (length (held_view self.old).rest) }
     {
         let rest = rest_from(&self.rest, self.at);
         let count = copy_front(rest, into);

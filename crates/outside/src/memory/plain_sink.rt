@@ -1,6 +1,8 @@
 //! A sink in memory that never fails, by contract: over it no fault can be answered.
 
-ghost use Rattle.std.specs.Prelude.{◌≡◌, []};
+ghost use Rattle.std.specs.Io.KnownBytes.{append_known};
+ghost use Rattle.outside.specs.Faults.{Rose, Steady, is_failed};
+ghost use Rattle.std.specs.Prelude.{◌≡◌, [], ◌<◌, ◌≤◌, length, take, IfOk, OnErr, IsTrue, Some};
 
 use crate::{OutsideFault, Sink};
 use std::alloc::Global;
@@ -38,6 +40,7 @@ impl PlainSink {
     }
 }
 
+/// Each clause of the trait, and that a call takes all that it is given.
 impl Sink for PlainSink {
     ghost use Rattle.std.specs.Prelude.{Some};
 
@@ -45,7 +48,17 @@ impl Sink for PlainSink {
 
     ghost faults = { λ _. 0 };
 
-    fn put(&mut self, piece: &[u8]) -> Result<usize, OutsideFault> {
+    fn put(&mut self, piece: &[u8]) -> Result<usize, OutsideFault>
+        requires { 0 < length piece.now }
+        ensures taken { IfOk result (λ n. n ≤ length piece.now) }
+        ensures some { IfOk result (λ n. 0 < n) }
+        ensures appends { IfOk result (λ n. Some self.new ≡ append_known (Some self.old) (take n piece.now)) }
+        ensures refused { OnErr result (Some self.new ≡ Some self.old) }
+        ensures later { 0 ≤ 0 }
+        ensures failed { IsTrue (is_failed result) → Rose 0 0 }
+        ensures steady { Steady (is_failed result) 0 0 }
+        ensures all { IfOk result (λ n. n ≡ length piece.now) }
+    {
         if self.text.extend_from_slice(piece).is_err() {
             return Err(OutsideFault::Memory);
         }

@@ -1,5 +1,5 @@
 use Rattle.outside.proofs.Lists.{drop-moved}
-use Rattle.outside.proofs.held_files.HeldFiles.take.Goals as goal
+use Rattle.outside.proofs.memory.held_files.HeldFiles.take.Goals as goal
 
 pub returns-clause-moved : goal.returns-clause-moved
 returns-clause-moved c =
