@@ -57,7 +57,7 @@ module _ (entries : List (List ℕ)) where
     pub shorter : length (node_strokes entries next) < length (node_strokes entries end)
     pub same : window entries (node_strokes entries end ++ code ∷ []) ≡ window entries (node_strokes entries next ++ code ∷ [])
 
-  next_end : (end code next : ℕ) → IsNode entries end → (end ≡ 0 → ⊥) → child_of entries end code ≡ None → IsNodeOf entries (shorter_end entries (node_strokes entries end)) next → IsNext end code next
+  pub next_end : (end code next : ℕ) → IsNode entries end → (end ≡ 0 → ⊥) → child_of entries end code ≡ None → IsNodeOf entries (shorter_end entries (node_strokes entries end)) next → IsNext end code next
   next_end end code next inside other none n =
       let x : List ℕ = node_strokes entries end in
       let some : x ≢ [] = node_some end inside other in
@@ -68,7 +68,7 @@ module _ (entries : List (List ℕ)) where
       }
 
   -- the root is the window where no entry begins with the stroke
-  next_none : (code : ℕ) → child_of entries 0 code ≡ None → IsNodeOf entries (window entries (node_strokes entries 0 ++ code ∷ [])) 0
+  pub next_none : (code : ℕ) → child_of entries 0 code ≡ None → IsNodeOf entries (window entries (node_strokes entries 0 ++ code ∷ [])) 0
   next_none code none = record { inside = root_inside entries; is = root_is entries ∙ sym (by (node_strokes entries 0) (root_is entries) none) }
     where
       by : (u : List ℕ) → u ≡ [] → entry_number (nodes entries) (u ++ code ∷ []) ≡ None → window entries (u ++ code ∷ []) ≡ []

@@ -3,9 +3,10 @@ ghost use Rattle.std.specs.Prelude.{◌≡◌, ◌↔◌, ◌++◌, ◌∷◌, �
 ghost use Rattle.steno_rules.specs.Segments.{last_piece as last_piece_of};
 ghost use Rattle.steno_rules.specs.Windows.{window};
 ghost use Rattle.longest_match.specs.Pieces.{piece_of};
-ghost use Rattle.outline_trie.specs.Tries.{IsNode, node_strokes};
+ghost use Rattle.outline_trie.specs.Tries.{IsNode, node_strokes, suffix_of};
 ghost use Rattle.match_window.specs.Ends.{StartsPiece, shorter_end as shorter_end_of};
 
+use crate::alone::alone_of;
 use crate::columns::{Columns, columns_of};
 use longest_match::Piece;
 use outline_trie::Trie;
@@ -28,27 +29,32 @@ pub struct Advance {
 pub struct Windows<'a> {
     trie: &'a Trie,
     columns: Columns,
+    alone: Vec<u32>,
 }
 
 impl<'a> Model for Windows<'a> {
     ghost use Rattle.std.specs.Prelude.{ℕ, List};
     ghost use Rattle.match_window.specs.inside.Rows.{AreColumns};
+    ghost use Rattle.match_window.specs.inside.Alone.{AreAlone};
 
     ghost Value = { List (List ℕ) };
 
     ghost view = { λ w. w.trie.now };
 
-    ghost invariant = { λ w. AreColumns w.trie.now w.columns.shorter.items w.columns.pieces.items };
+    ghost invariant = { λ w.
+        AreColumns w.trie.now w.columns.shorter.items w.columns.pieces.items
+        × AreAlone w.trie.now w.alone.items };
 }
 
 impl Windows<'_> {
-    /// The windows of this trie's nodes, 8 bytes a node, in time linear in the nodes times the length of their chains of ends.
+    /// The windows of this trie's nodes, 12 bytes a node, in time linear in the nodes times the length of their chains of ends.
     pub fn new(alloc: Global, trie: &Trie) -> Result<Windows<'_>, AllocError>
         ensures { IfOk result (λ windows. windows ≡ trie.now) }
     {
         Ok(Windows {
             trie,
             columns: columns_of(alloc, trie)?,
+            alone: alone_of(alloc, trie)?,
         })
     }
 
@@ -101,6 +107,16 @@ impl Windows<'_> {
         ensures end { node_strokes self.now result ≡ shorter_end_of self.now (node_strokes self.now node) }
     {
         self.columns.shorter[node as usize]
+    }
+
+    /// The node of a node's last stroke alone, None for the root and where no entry begins with that stroke. It is kept, so
+    /// nothing is looked up.
+    pub fn alone(&self, node: u32) -> Option<u32>
+        requires { IsNode self.now node }
+        ensures { result ≡ suffix_of self.now node 1 }
+    {
+        let found = self.alone[node as usize];
+        if found == 0 { None } else { Some(found) }
     }
 
     /// A node's strokes. They are found from the last one up.
