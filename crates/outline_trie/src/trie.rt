@@ -91,9 +91,10 @@ impl Trie {
         })
     }
 
-    /// How many nodes there are: one where there are no entries.
+    /// How many nodes there are: one where there are no entries. Whoever holds a trie knows that it is made of entries.
     pub fn node_count(&self) -> u32
-        ensures { result ≡ length (nodes self.now) }
+        ensures count { result ≡ length (nodes self.now) }
+        ensures entries { AreEntries self.now }
     {
         self.parents.len() as u32
     }

@@ -12,5 +12,5 @@ loop-node-preserved c = alone_more c.args.trie.now c.loop-node.node c.loop-node.
 
 pub returns : goal.returns
 returns c =
-    let same : c.loop-node.node ≡ length (nodes c.args.trie.now) = omega (arith, c.loop-node-test.false, c.loop-node.auto.node-end, c.node_count-node-end.ensures) in
+    let same : c.loop-node.node ≡ length (nodes c.args.trie.now) = omega (arith, c.loop-node-test.false, c.loop-node.auto.node-end, c.node_count-node-end.ensures.count) in
     subst (λ n. AreAloneBelow c.args.trie.now n c.loop-node.alone.items) same c.loop-node.invariant
