@@ -37,6 +37,7 @@ pub use machine::RoundState;
 pub use search::search_plain;
 pub use settled::Settled;
 pub use step_graph::{MAX_NUMBERS, StepGraph};
+pub use word::word_after;
 
 /// What a search gives is one value: the graph alone decides it.
 pub fn one_search()
