@@ -8,8 +8,8 @@ use Rattle.steno_rules.specs.Nodes.{nodes}
 use Rattle.steno_order.specs.Reading.{spelt_strokes}
 use Rattle.dict_json.specs.Generated.{generated_text}
 use Rattle.dict_stack.specs.Stacks.{StackView, stack_of, all_outlines, most_entries, most_dictionaries}
-use Rattle.longest_match.specs.declared.pieces.Piece.{Piece}
-use Rattle.longest_match.specs.Pieces.{pieces}
+use Rattle.stroke.specs.declared.pieces.Piece.{Piece}
+use Rattle.stroke.specs.Pieces.{pieces}
 use Rattle.report.specs.Refusals.{RefusalView, not_words, too_many_dictionaries, too_many_entries, too_many_nodes}
 use Rattle.report.specs.Replays.{pieces_text, replay_text}
 use Rattle.report.proofs.SegmentedReplays.{pieces_text-segments}

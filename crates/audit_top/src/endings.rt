@@ -9,11 +9,10 @@ ghost use Rattle.audit_top.specs.Dues.{Pays, fault_due, fault_status};
 
 use crate::status::Status;
 use dict_stack::Stack;
-use longest_match::Piece;
 use outside::{OutsideFault, Sink, write_all};
 use report::{FaultLine, ReportFault, write_fault, write_replay};
 use std::alloc::Global;
-use stroke::Stroke;
+use stroke::{Piece, Stroke};
 
 /// The status of a run that ends with the line of a refusal.
 fn status_of(fault: &FaultLine<'_>) -> Status

@@ -1,13 +1,11 @@
 -- The dictionary of keys none of which is too long.
-use Rattle.std.proofs.Common.{ℕ, suc, ◌≡◌, ◌<◌, ◌≤◌, ◌+◌, ◌-◌, ◌^◌, List, [], ◌∷◌, length, map, filter, filter_map, find, fold, refl, sym, ap, subst, ◌∙◌, arith, None, Some, Option, Bool, true, false, is_none, is_some, option_map, Ordering, Less, Equal, Greater, ◌==◌, not, cond, nat_lt, ◌&&◌, All}
+use Rattle.std.proofs.Common.{ℕ, suc, ◌≡◌, ◌<◌, ◌≤◌, ◌+◌, ◌-◌, ◌^◌, List, [], ◌∷◌, length, map, filter, filter_map, find, fold, refl, sym, ap, subst, ◌∙◌, arith, None, Some, Option, Bool, true, false, is_none, is_some, option_map, Ordering, Less, Equal, Greater, not, cond, nat_lt, ◌&&◌, All}
 use Rattle.std.specs.List.{AllByRecursion, cons_option}
-use Rattle.std.proofs.lemmas.List.{length-map, get_or-map}
+use Rattle.std.proofs.lemmas.List.{length-map}
 use Rattle.std.proofs.lemmas.List.Elements.{Contains-get_or, All-from_recursion, All-contains}
-use Rattle.std.proofs.lemmas.List.Splits.{length-slice_split}
 use Rattle.std.proofs.lemmas.Bool.{ltb-false}
 use Rattle.steno_rules.specs.Nodes.{insert_new, by_order}
-use Rattle.steno_rules.specs.Outlines.{AreRising, outline_cmp}
-use Rattle.steno_order.specs.Keys.{slash}
+use Rattle.steno_rules.specs.Outlines.{AreRising, IsOutline, most_strokes, outline_cmp}
 use Rattle.steno_order.specs.Reading.{spelt_strokes}
 use Rattle.steno_order.specs.Spelling.{parts_of}
 use Rattle.dict_json.specs.Reading.{Member, Keyed, keyed, AreInOrder}
@@ -18,6 +16,7 @@ use Rattle.dict_json.proofs.InOrder.{in_order-rising, in_order-Contains}
 use Rattle.serde_json.specs.Find.{as_str}
 use Rattle.steno_rules.proofs.Rising.{Rises, rises_of_pairs}
 use Rattle.dict_json.proofs.KeyOrder.{Before, some_in_order}
+use Rattle.steno_order.proofs.ListLaws.{spelt_strokes-IsOutline}
 use Rattle.dict_json.proofs.Parts.{spelt_strokes-length}
 
 -- where none passes, all fail
@@ -80,37 +79,30 @@ and_true : (b : Bool) → b && true ≡ false → b ≡ false
 and_true true e = e
 and_true false e = refl
 
--- what the length of an entry's outline is
-abbrev IsInBounds : List ℕ → Type 0
-IsInBounds outline = (0 < length outline) × (length outline ≤ 64)
-
 -- each key that isn't too long spells an outline, if it spells strokes
-spelt_outlines : (pairs : List Keyed) → find is_too_long pairs ≡ None → AllByRecursion IsInBounds (entry_outlines (spelt pairs))
+spelt_outlines : (pairs : List Keyed) → find is_too_long pairs ≡ None → AllByRecursion IsOutline (entry_outlines (spelt pairs))
 spelt_outlines [] e = tt
 spelt_outlines (p ∷ ps) e = let f = fails is_too_long p ps e in by (spelt_strokes p.key) refl f.0 (spelt_outlines ps f.1)
   where
-    by : (o : Option (List ℕ)) → spelt_strokes p.key ≡ o → nat_lt 64 (length (parts_of p.key)) && is_some (spelt_strokes p.key) ≡ false → AllByRecursion IsInBounds (entry_outlines (spelt ps)) →
-        AllByRecursion IsInBounds (entry_outlines (cons_option (option_map (λ strokes. record { outline = strokes; text = p.text }) o) (spelt ps)))
+    by : (o : Option (List ℕ)) → spelt_strokes p.key ≡ o → nat_lt most_strokes (length (parts_of p.key)) && is_some (spelt_strokes p.key) ≡ false → AllByRecursion IsOutline (entry_outlines (spelt ps)) →
+        AllByRecursion IsOutline (entry_outlines (cons_option (option_map (λ strokes. record { outline = strokes; text = p.text }) o) (spelt ps)))
     by None spells short rest = rest
     by (Some strokes) spells short rest =
         let count = spelt_strokes-length p.key strokes spells in
-        let few = ltb-false 64 (length (parts_of p.key)) (and_true _ (ap (λ o. nat_lt 64 (length (parts_of p.key)) && is_some o) (sym spells) ∙ short)) in
-        ((omega (arith, count, length-slice_split (λ c. c == slash) p.key), omega (arith, count, few)), rest)
+        let few = ltb-false most_strokes (length (parts_of p.key)) (and_true _ (ap (λ o. nat_lt most_strokes (length (parts_of p.key)) && is_some o) (sym spells) ∙ short)) in
+        (spelt_strokes-IsOutline p.key strokes spells (omega (arith, count, few)), rest)
 
-in_order_outlines : (entries : List Entry) → AllByRecursion IsInBounds (entry_outlines entries) → All IsInBounds (in_order (entry_outlines entries))
+in_order_outlines : (entries : List Entry) → AllByRecursion IsOutline (entry_outlines entries) → All IsOutline (in_order (entry_outlines entries))
 in_order_outlines entries all k d below =
-    All-contains IsInBounds (entry_outlines entries) _ (All-from_recursion IsInBounds (entry_outlines entries) all) ((in_order-Contains (entry_outlines entries) _).0 (Contains-get_or (in_order (entry_outlines entries)) k d below))
-
-all_back : (P : List ℕ → Type 0) (es : List Entry) → All P (entry_outlines es) → All (λ e. P e.outline) es
-all_back P es all k d below = subst P (get_or-map (λ (e : Entry). e.outline) es k d d.outline below) (all k d.outline (let same : length (entry_outlines es) ≡ length es = length-map es _ in omega (arith, same)))
+    All-contains IsOutline (entry_outlines entries) _ (All-from_recursion IsOutline (entry_outlines entries) all) ((in_order-Contains (entry_outlines entries) _).0 (Contains-get_or (in_order (entry_outlines entries)) k d below))
 
 dictionary-IsDictionary : (pairs : List Keyed) → find is_too_long pairs ≡ None → Rises Before (map (λ p. p.key) pairs) → length pairs < 2 ^ 32 → IsDictionary (dictionary_of pairs)
 dictionary-IsDictionary pairs short rises few =
     let es = spelt pairs in
-    let all = subst (All IsInBounds) (sym (last_of_each-outlines es)) (in_order_outlines es (spelt_outlines pairs short)) in
+    let all = subst (All IsOutline) (sym (last_of_each-outlines es)) (in_order_outlines es (spelt_outlines pairs short)) in
     record {
-      are_entries = record { rising = subst AreRising (sym (last_of_each-outlines es)) (in_order-rising (entry_outlines es)); not_empty = λ k d below. (all k d below).0 };
-      are_short = λ k d below. (all_back IsInBounds (last_of_each es) all k d below).1;
+      are_entries = record { rising = subst AreRising (sym (last_of_each-outlines es)) (in_order-rising (entry_outlines es)); not_empty = λ k d below. (all k d below).at_least };
+      are_outlines = all;
       skipped_rise = some_in_order (λ p. is_none (spelt_strokes p.key)) pairs rises;
       few_entries = omega (arith, last_of_each-length es, counted pairs);
       few_keys = omega (arith, counted pairs);

@@ -5,7 +5,7 @@ use Rattle.std.proofs.lemmas.Bool.{and_parts, ltb-true}
 use Rattle.std.proofs.lemmas.Slice.Eq.{bytes_eq-Decides}
 use Rattle.std.proofs.lemmas.List.{length-map}
 use Rattle.std.proofs.lemmas.List.FromFn.{length-range_with_len}
-use Rattle.steno_rules.specs.Outlines.{IsStroke}
+use Rattle.steno_rules.specs.Outlines.{IsStroke, most_strokes}
 use Rattle.steno_order.specs.Keys.{slash}
 use Rattle.steno_order.specs.Canonical.{canonical, canonical_text}
 use Rattle.steno_order.specs.Reading.{spelt_strokes}
@@ -59,12 +59,12 @@ spells_strokes x n m e =
     subst (λ k. spelt_strokes (canonical_text (codes_of x (range_with_len 1 k))) ≡ Some (codes_of x (range_with_len 1 k))) (sym e)
     (canonical_text-back (codes_of x (1 ∷ range_with_len 2 m)) (omega arith) (All-from_recursion IsStroke (codes_of x (1 ∷ range_with_len 2 m)) (strokes_are x (1 ∷ range_with_len 2 m))))
 
--- a text that is the canonical one of at most 64 strokes, and spells them
+-- a text that is the canonical one of an outline's strokes, and spells them
 pub record IsCanonicalKey (name : List ℕ) : Type 0 where
   pub strokes : List ℕ
   pub spells : spelt_strokes name ≡ Some strokes
   pub written : canonical_text strokes ≡ name
-  pub few : length strokes ≤ 64
+  pub few : length strokes ≤ most_strokes
 
 pub key_canonical : (x : ℕ) → IsCanonicalKey (key_text x)
 key_canonical x =

@@ -6,7 +6,7 @@ use Rattle.std.proofs.lemmas.List.{length-append}
 use Rattle.std.proofs.lemmas.List.FromFn.{length-range_with_len}
 use Rattle.std.proofs.lemmas.Fmt.{length-decimal-le}
 use Rattle.steno_order.specs.Keys.{slash}
-use Rattle.dict_json.specs.Generated.{left_texts, vowel_texts, right_texts, after_draws, entry_length, stroke_text, first_draw, key_text, key_of, is_new, member_text, generated_text}
+use Rattle.dict_json.specs.Generated.{left_texts, vowel_texts, right_texts, after_draws, entry_length, stroke_text, first_draw, key_text, key_of, is_new, member_text, most_generated, generated_text}
 use Rattle.dict_json.proofs.PlainTexts.{key_plain, member_plain}
 
 -- each text of a table has at most 4 bytes
@@ -45,7 +45,7 @@ member_short start i small =
     let whole = ap length (sym (member_plain k i (key_plain (first_draw start i)) (omega (arith, small)))) in
     omega (arith, whole, length-append k rest, length-append (decimal i) (34 ∷ []), key_short (first_draw start i), length-decimal-le 6 i (omega arith) small (omega (arith, small)))
 
-more_short : (start a n : ℕ) → a + n ≤ 100000 → length (flat_map (λ i. codes ",\n" ++ member_text start i) (filter (is_new start) (range_with_len a n))) ≤ 68 * n
+more_short : (start a n : ℕ) → a + n ≤ most_generated → length (flat_map (λ i. codes ",\n" ++ member_text start i) (filter (is_new start) (range_with_len a n))) ≤ 68 * n
 more_short start a zero le = omega arith
 more_short start a (suc n) le = by (is_new start a) (more_short start (a + 1) n (omega (arith, le)))
   where
@@ -56,12 +56,12 @@ more_short start a (suc n) le = by (is_new start a) (more_short start (a + 1) n 
     by true rest = omega (arith, rest, member_short start a (omega (arith, le)), length-append (codes ",\n" ++ member_text start a) (flat_map (λ i. codes ",\n" ++ member_text start i) others))
     by false rest = omega (arith, rest)
 
-text_short : (start count : ℕ) → count ≤ 100000 → length (generated_text start count) < 2 ^ 32
+text_short : (start count : ℕ) → count ≤ most_generated → length (generated_text start count) < 2 ^ 32
 text_short start zero le = omega arith
 text_short start (suc n) le =
     let more = flat_map (λ i. codes ",\n" ++ member_text start i) (filter (is_new start) (range_with_len 1 n)) in
     let members = member_text start 0 ++ more in
     omega (arith, le, member_short start 0 (omega arith), more_short start 1 n (omega (arith, le)), length-append (member_text start 0) more, length-append (codes "{\n" ++ members) (codes "\n}\n"))
 
-pub generated_few : (start count : ℕ) (bytes : List ℕ) → count ≤ 100000 → bytes ≡ generated_text start count → length bytes < 2 ^ 32
+pub generated_few : (start count : ℕ) (bytes : List ℕ) → count ≤ most_generated → bytes ≡ generated_text start count → length bytes < 2 ^ 32
 generated_few start count bytes le is = omega (arith, text_short start count le, ap length is)

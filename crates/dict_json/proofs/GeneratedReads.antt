@@ -7,7 +7,7 @@ use Rattle.std.proofs.lemmas.Bool.{le-ltb}
 use Rattle.std.proofs.lemmas.List.{length-map}
 use Rattle.serde_json.specs.Data.{string, object, Members, no_members, member, put}
 use Rattle.serde_json.specs.Find.{as_str}
-use Rattle.steno_rules.specs.Outlines.{outline_cmp}
+use Rattle.steno_rules.specs.Outlines.{most_strokes, outline_cmp}
 use Rattle.steno_rules.specs.Nodes.{insert_new}
 use Rattle.steno_rules.proofs.Lists.{in_cons, in_first, in_later, in_map, none_in_nil}
 use Rattle.steno_rules.proofs.Rising.{Rises, rises_of_pairs, below_itself}
@@ -17,7 +17,7 @@ use Rattle.steno_order.specs.Canonical.{canonical_text}
 use Rattle.dict_json.specs.Reading.{Member, Keyed, keyed, members_of, names_of, reading}
 use Rattle.dict_json.specs.Dictionaries.{DictionaryView, IsWhole, entry_outlines, in_order, spelt, last_of_each, skipped_of, dictionary_of}
 use Rattle.dict_json.specs.Outcomes.{is_too_long, keys_outcome, members_outcome, object_outcome, value_outcome, dictionary_outcome, dictionary}
-use Rattle.dict_json.specs.Generated.{first_draw, key_of, is_new, generated_text}
+use Rattle.dict_json.specs.Generated.{most_generated, first_draw, key_of, is_new, generated_text}
 use Rattle.dict_json.proofs.Distinct.{AreDistinct, in_order-length}
 use Rattle.dict_json.proofs.InOrder.{in_order-rising, in_order-Contains}
 use Rattle.dict_json.proofs.GeneratedKeys.{IsCanonicalKey, key_canonical}
@@ -69,7 +69,7 @@ none_skipped (p ∷ ps) h = ap (λ o. map (λ (q : Keyed). q.key) (cond (is_none
 none_long : (pairs : List Keyed) → AllByRecursion IsCanonicalKey (map (λ p. p.key) pairs) → find is_too_long pairs ≡ None
 none_long [] h = refl
 none_long (p ∷ ps) h =
-    let short = le-ltb 64 (length (parts_of p.key)) (omega (arith, h.0.few, spelt_strokes-length p.key h.0.strokes h.0.spells)) in
+    let short = le-ltb most_strokes (length (parts_of p.key)) (omega (arith, h.0.few, spelt_strokes-length p.key h.0.strokes h.0.spells)) in
     ap (λ b. cond (b && is_some (spelt_strokes p.key)) (Some p) (find is_too_long ps)) short ∙ none_long ps h.1
 
 spelt_first : (p : Keyed) (ps : List Keyed) (strokes : List ℕ) → spelt_strokes p.key ≡ Some strokes → spelt (p ∷ ps) ≡ record { outline = strokes; text = p.text } ∷ spelt ps
@@ -147,7 +147,7 @@ numbers_small start a (suc n) most le = by (is_new start a) (numbers_small start
     by true rest = (omega (arith, le), rest)
     by false rest = rest
 
-pub generated_whole : (start count : ℕ) → count ≤ 100000 → IsUtf8 (generated_text start count) → (d : DictionaryView) × (dictionary_outcome (generated_text start count) ≡ dictionary d) × IsWhole d
+pub generated_whole : (start count : ℕ) → count ≤ most_generated → IsUtf8 (generated_text start count) → (d : DictionaryView) × (dictionary_outcome (generated_text start count) ≡ dictionary d) × IsWhole d
 unfolding reading serde_json_on_literals is_utf8 chars
 generated_whole start zero le utf8 = (record { entries = []; skipped = []; folded = 0 }, refl, record { none_skipped = refl; none_folded = refl })
 generated_whole start (suc n) le utf8 =

@@ -1,10 +1,11 @@
 -- What one more key adds to what a walk has collected.
-use Rattle.std.proofs.Common.{ℕ, ◌≡◌, ◌<◌, ◌≤◌, List, [], ◌∷◌, ◌++◌, length, map, filter, filter_map, find, refl, sym, ap, ◌∙◌, arith, None, Some, Option, Bool, true, false, is_none, is_some, option_map, Result, Ok, Err, OnOk, is_err, true≢false, not, cond, nat_lt, ◌&&◌}
+use Rattle.std.proofs.Common.{ℕ, ◌≡◌, ◌<◌, ◌≤◌, List, [], ◌∷◌, ◌++◌, length, map, filter, filter_map, find, refl, sym, ap, ◌∙◌, arith, None, Some, Option, Bool, true, false, is_none, is_some, option_map, Result, Ok, Err, OnOk, not, cond, nat_lt, ◌&&◌}
 use Rattle.std.specs.Option.{option_or}
 use Rattle.std.proofs.lemmas.List.{append-nil}
 use Rattle.std.proofs.lemmas.List.Elements.{filter-append, filter_map-append}
 use Rattle.std.proofs.lemmas.List.Folds.{find-append}
 use Rattle.std.proofs.lemmas.Bool.{lt-ltb, le-ltb}
+use Rattle.steno_rules.specs.Outlines.{most_strokes}
 use Rattle.steno_order.specs.Reading.{spelt_strokes}
 use Rattle.steno_order.specs.Spelling.{parts_of}
 use Rattle.dict_json.specs.Reading.{Keyed}
@@ -17,10 +18,6 @@ use Rattle.dict_json.proofs.Parts.{spelt_strokes-length}
 pub on_ok : {T E : Type 0} (r : Result T E) (P Q : Type 0) → OnOk r P → (P → Q) → OnOk r Q
 on_ok (Ok x) P Q h f = f h
 on_ok (Err e) P Q h f = h
-
-pub when_ok : {T E : Type 0} (r : Result T E) (P : Type 0) → false ≡ is_err r → OnOk r P → P
-when_ok (Ok x) P e h = h
-when_ok (Err e) P is h = absurd (true≢false (sym is))
 
 or_none : {X : Type 0} (o : Option X) → option_or o None ≡ o
 or_none None = refl
@@ -50,7 +47,7 @@ too_long-push pairs p = ap (option_map (λ (q : Keyed). (q.key, length (parts_of
 walked-push : (pairs : List Keyed) (p : Keyed) → walked (pairs ++ p ∷ []) ≡ joined (walked pairs) (walked (p ∷ []))
 walked-push pairs p = λ i. record { entries = entries-push pairs p i; skipped = skipped-push pairs p i; too_long = too_long-push pairs p i }
 
--- by whether the key has more than 64 parts, and what it spells
+-- by whether the key has too many parts, and what it spells
 abbrev one : Bool → Option (List ℕ) → Keyed → KeysView
 one many None p = record { entries = []; skipped = p.key ∷ []; too_long = None }
 one true (Some strokes) p = record { entries = []; skipped = []; too_long = Some (p.key, length (parts_of p.key)) }
@@ -74,35 +71,35 @@ over : {X Y : Type 0} (f : X → Y) (b : Bool) (x y : X) → f (cond b x y) ≡ 
 over f true x y = refl
 over f false x y = refl
 
-walked_one : (p : Keyed) → walked (p ∷ []) ≡ one (nat_lt 64 (length (parts_of p.key))) (spelt_strokes p.key) p
+walked_one : (p : Keyed) → walked (p ∷ []) ≡ one (nat_lt most_strokes (length (parts_of p.key))) (spelt_strokes p.key) p
 walked_one p =
     (λ i. record {
       entries = over spelt (not (is_too_long p)) (p ∷ []) [] i;
       skipped = over (map (λ (q : Keyed). q.key)) (is_none (spelt_strokes p.key)) (p ∷ []) [] i;
       too_long = over (option_map (λ (q : Keyed). (q.key, length (parts_of q.key)))) (is_too_long p) (Some p) None i;
-    }) ∙ tested-one (nat_lt 64 (length (parts_of p.key))) (spelt_strokes p.key) p
+    }) ∙ tested-one (nat_lt most_strokes (length (parts_of p.key))) (spelt_strokes p.key) p
 
 module _ (pairs : List Keyed) (k : KeysView) (key text : List ℕ) (is : k ≡ walked pairs) where
-  added : (many : Bool) (o : Option (List ℕ)) → nat_lt 64 (length (parts_of key)) ≡ many → spelt_strokes key ≡ o → walked (pairs ++ record { key = key; text = text } ∷ []) ≡ joined k (one many o (record { key = key; text = text }))
+  added : (many : Bool) (o : Option (List ℕ)) → nat_lt most_strokes (length (parts_of key)) ≡ many → spelt_strokes key ≡ o → walked (pairs ++ record { key = key; text = text } ∷ []) ≡ joined k (one many o (record { key = key; text = text }))
   added many o long spells = walked-push pairs (record { key = key; text = text }) ∙ (λ i. joined (sym is i) ((walked_one (record { key = key; text = text }) ∙ (λ j. one (long j) (spells j) (record { key = key; text = text }))) i))
 
   -- a readable key
-  pub adds_entry : (strokes : List ℕ) → spelt_strokes key ≡ Some strokes → length strokes ≤ 64 →
+  pub adds_entry : (strokes : List ℕ) → spelt_strokes key ≡ Some strokes → length strokes ≤ most_strokes →
       record { entries = k.entries ++ record { outline = strokes; text = text } ∷ []; skipped = k.skipped; too_long = k.too_long } ≡ walked (pairs ++ record { key = key; text = text } ∷ [])
   adds_entry strokes spells short =
-      sym (added false (Some strokes) (le-ltb 64 (length (parts_of key)) (omega (arith, spelt_strokes-length key strokes spells))) spells
+      sym (added false (Some strokes) (le-ltb most_strokes (length (parts_of key)) (omega (arith, spelt_strokes-length key strokes spells))) spells
       ∙ (λ i. record { entries = k.entries ++ record { outline = strokes; text = text } ∷ []; skipped = append-nil k.skipped i; too_long = or_none k.too_long i }))
 
   -- a key with an unreadable part
   pub adds_skipped : spelt_strokes key ≡ None → record { entries = k.entries; skipped = k.skipped ++ key ∷ []; too_long = k.too_long } ≡ walked (pairs ++ record { key = key; text = text } ∷ [])
   adds_skipped spells =
-      sym (added (nat_lt 64 (length (parts_of key))) None refl spells
+      sym (added (nat_lt most_strokes (length (parts_of key))) None refl spells
       ∙ (λ i. record { entries = append-nil k.entries i; skipped = k.skipped ++ key ∷ []; too_long = or_none k.too_long i }))
 
   -- a key that is too long
-  pub adds_too_long : (strokes : List ℕ) (parts : ℕ) → spelt_strokes key ≡ Some strokes → length strokes ≡ parts → 64 < parts →
+  pub adds_too_long : (strokes : List ℕ) (parts : ℕ) → spelt_strokes key ≡ Some strokes → length strokes ≡ parts → most_strokes < parts →
       record { entries = k.entries; skipped = k.skipped; too_long = option_or k.too_long (Some (key, parts)) } ≡ walked (pairs ++ record { key = key; text = text } ∷ [])
   adds_too_long strokes parts spells count long =
       let all = sym (spelt_strokes-length key strokes spells) ∙ count in
-      sym (added true (Some strokes) (lt-ltb 64 (length (parts_of key)) (omega (arith, all))) spells
+      sym (added true (Some strokes) (lt-ltb most_strokes (length (parts_of key)) (omega (arith, all))) spells
       ∙ (λ i. record { entries = append-nil k.entries i; skipped = append-nil k.skipped i; too_long = option_or k.too_long (Some (key, all i)) }))

@@ -2,11 +2,11 @@
 --     dictionary_of pairs     its entries in outline order, the skipped keys, and how many keys are folded
 --     IsDictionary d          what every dictionary is
 --     IsWhole d               each key made an entry of its own
-use Rattle.std.specs.Prelude.{ℕ, ◌+◌, ◌-◌, ◌<◌, ◌≤◌, ◌≡◌, ◌^◌, List, [], Bool, All, map, filter, filter_map, find, fold, length, reverse, nat_eq, is_none, option_map}
+use Rattle.std.specs.Prelude.{ℕ, ◌+◌, ◌-◌, ◌<◌, ◌≡◌, ◌^◌, List, [], Bool, All, map, filter, filter_map, find, fold, length, reverse, nat_eq, is_none, option_map}
 use Rattle.std.specs.Option.{option_map_or}
 use Rattle.std.specs.Cmp.Lexicographic.{pointwise}
 use Rattle.steno_rules.specs.Nodes.{insert_new}
-use Rattle.steno_rules.specs.Outlines.{AreEntries}
+use Rattle.steno_rules.specs.Outlines.{AreEntries, IsOutline}
 use Rattle.steno_order.specs.Reading.{spelt_strokes}
 use Rattle.dict_json.specs.Reading.{Keyed, AreInOrder}
 
@@ -53,11 +53,11 @@ skipped_of pairs = map (λ p. p.key) (filter (λ p. is_none (spelt_strokes p.key
 abbrev pub dictionary_of : List Keyed → DictionaryView
 dictionary_of pairs = record { entries = last_of_each (spelt pairs); skipped = skipped_of pairs; folded = length (spelt pairs) - length (last_of_each (spelt pairs)) }
 
--- the entries are in strictly rising order, none of them empty or longer than 64 strokes; the skipped keys are in order of
--- their bytes; and all numbers are below 2^32
+-- the entries are outlines in strictly rising order; the skipped keys are in order of their bytes; and all numbers are below
+-- 2 ^ 32
 pub record IsDictionary (d : DictionaryView) : Type 0 where
   pub are_entries : AreEntries (entry_outlines d.entries)
-  pub are_short : All (λ e. length e.outline ≤ 64) d.entries
+  pub are_outlines : All IsOutline (entry_outlines d.entries)
   pub skipped_rise : AreInOrder d.skipped
   pub few_entries : length d.entries < 2 ^ 32
   pub few_keys : d.folded + length d.skipped < 2 ^ 32

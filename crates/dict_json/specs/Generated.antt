@@ -10,7 +10,11 @@ use Rattle.text_rules.specs.Lines.{parts_between}
 use Rattle.text_rules.specs.Quoted.{quoted}
 use Rattle.steno_order.specs.Keys.{slash}
 
--- the spaced_texts of a text, with a space between each two
+-- the most entries that a dictionary is made of
+abbrev pub most_generated : ℕ
+most_generated = 100000
+
+-- the parts of a text between its spaces
 abbrev pub spaced_texts : List ℕ → List (List ℕ)
 spaced_texts text = parts_between 32 text
 

@@ -3,6 +3,7 @@
 use Rattle.std.specs.Prelude.{ℕ, List, Bool, ◌&&◌, nat_lt, length, find, filter_map, is_some, is_none, Option, None, Some}
 use Rattle.serde_json.specs.Data.{Data, Members}
 use Rattle.serde_json.specs.Find.{as_object}
+use Rattle.steno_rules.specs.Outlines.{most_strokes}
 use Rattle.steno_order.specs.Spelling.{parts_of}
 use Rattle.steno_order.specs.Reading.{spelt_strokes}
 use Rattle.dict_json.specs.Reading.{reading, Member, members_of, Keyed, keyed}
@@ -16,9 +17,9 @@ pub data Outcome : Type 0 where
   too_long : List ℕ → ℕ → Outcome
   dictionary : DictionaryView → Outcome
 
--- the key has more than 64 parts, and each of them is readable
+-- the key has more parts than an outline has strokes, and each of them is readable
 abbrev pub is_too_long : Keyed → Bool
-is_too_long p = nat_lt 64 (length (parts_of p.key)) && is_some (spelt_strokes p.key)
+is_too_long p = nat_lt most_strokes (length (parts_of p.key)) && is_some (spelt_strokes p.key)
 
 -- of keys with their texts, by the first key that is too long
 abbrev pub keys_outcome : List Keyed → Option Keyed → Outcome

@@ -1,7 +1,7 @@
 //! The dictionary of a file.
 
 ghost use Rattle.std.specs.Prelude.{◌≡◌, ◌<◌, ◌≤◌, ◌+◌, ◌^◌, length, All};
-ghost use Rattle.steno_rules.specs.Outlines.{AreEntries};
+ghost use Rattle.steno_rules.specs.Outlines.{AreEntries, IsOutline};
 ghost use Rattle.dict_json.specs.Dictionaries.{IsDictionary, entry_outlines};
 ghost use Rattle.dict_json.specs.Reading.{AreInOrder};
 
@@ -27,11 +27,8 @@ impl Model for DictEntry {
 impl DictEntry {
     /// The entry of an outline and its translation.
     pub(crate) fn new(outline: Outline, text: Text) -> DictEntry
-        ensures entry { result ≡ record { outline = outline; text = text } }
-        ensures short { length outline ≤ 64 }
+        ensures { result ≡ record { outline = outline; text = text } }
     {
-        // An outline says that it is short where it gives its strokes.
-        outline.strokes();
         DictEntry { outline, text }
     }
 
@@ -97,7 +94,7 @@ impl Dictionary {
     pub fn entries(&self) -> &[DictEntry]
         ensures entries { result.now ≡ self.now.entries }
         ensures are_entries { AreEntries (entry_outlines self.now.entries) }
-        ensures are_short { All (λ e. length e.outline ≤ 64) self.now.entries }
+        ensures are_outlines { All IsOutline (entry_outlines self.now.entries) }
         ensures few { length self.now.entries < 2 ^ 32 }
     {
         self.entries.as_slice()
@@ -126,7 +123,7 @@ impl Dictionary {
         ensures skipped { result.1.items ≡ self.skipped }
         ensures folded { result.2 ≡ self.folded }
         ensures are_entries { AreEntries (entry_outlines self.entries) }
-        ensures are_short { All (λ e. length e.outline ≤ 64) self.entries }
+        ensures are_outlines { All IsOutline (entry_outlines self.entries) }
         ensures skipped_rise { AreInOrder self.skipped }
         ensures few_entries { length self.entries < 2 ^ 32 }
         ensures few_keys { self.folded + length self.skipped < 2 ^ 32 }

@@ -5,7 +5,7 @@ ghost use Rattle.steno_order.specs.Keys.{slash};
 ghost use Rattle.text_rules.specs.Quoted.{escaped, quoted};
 ghost use Rattle.dict_json.specs.Dictionaries.{DictionaryView, IsWhole};
 ghost use Rattle.dict_json.specs.Outcomes.{dictionary, dictionary_outcome};
-ghost use Rattle.dict_json.specs.Generated.{after_draws, drawn, generated_text, key_text, members_text, entry_length, stroke_text};
+ghost use Rattle.dict_json.specs.Generated.{after_draws, drawn, generated_text, key_text, members_text, entry_length, most_generated, stroke_text};
 
 use std::alloc::{AllocError, Global};
 use std::collections::HashSet;
@@ -24,6 +24,9 @@ const VOWELS: [&str; 8] = ["A", "O", "E", "U", "AO", "AE", "EU", "AOEU"];
 const RIGHT: [&str; 16] = [
     "", "F", "R", "P", "B", "L", "G", "T", "S", "D", "Z", "PB", "PL", "BG", "TS", "FRPB",
 ];
+
+/// The most entries that a dictionary is made of.
+pub const MAX_GENERATED: u32 = 100_000;
 
 /// The minimal standard generator of Park and Miller (1988) with its first multiplier, 16,807. Seen as its value.
 #[derive(Drop)]
@@ -163,7 +166,7 @@ fn object(alloc: Global, start: u64, count: u32) -> Result<String, AllocError>
 /// An entry whose key was already written is left out, so the bytes read as a dictionary without skipped or folded keys.
 /// The cost is linear in the count.
 pub fn generated(alloc: Global, start: u64, count: u32) -> Result<Vec<u8>, AllocError>
-    requires { count ≤ 100000 }
+    requires { count ≤ most_generated }
     ensures bytes { IfOk result (λ bytes. bytes.items ≡ generated_text start count) }
     ensures few { IfOk result (λ bytes. length bytes.items < 2 ^ 32) }
     ensures reads { IfOk result (λ bytes. (d : DictionaryView) × (dictionary_outcome bytes.items ≡ dictionary d) × IsWhole d) }

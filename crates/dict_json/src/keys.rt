@@ -3,7 +3,7 @@
 ghost use Rattle.std.specs.Prelude.{◌≡◌, ◌<◌, ◌≤◌, ◌∷◌, ◌++◌, ◌^◌, [], List, length, string_bytes, IfOk, OnOk, Some};
 ghost use Rattle.std.specs.Option.{option_or};
 ghost use Rattle.dict_json.specs.Reading.{Keyed};
-ghost use Rattle.dict_json.specs.inside.Walks.{walked};
+ghost use Rattle.dict_json.specs.inside.Walks.{IsWalkedOn, walked, with_entry, with_skipped, with_too_long};
 
 use crate::dictionaries::DictEntry;
 use crate::texts::Text;
@@ -46,7 +46,7 @@ impl Keys {
     /// Adds a key with its text, both of which are moved.
     pub(crate) fn add(&mut self, alloc: Global, key: String, text: String) -> Result<(), AllocError>
         requires { length (string_bytes key) < 2 ^ 32 }
-        ensures { OnOk result ((pairs : List Keyed) → self.old ≡ walked pairs → self.new ≡ walked (pairs ++ record { key = string_bytes key; text = string_bytes text } ∷ [])) }
+        ensures { OnOk result (IsWalkedOn self.old (string_bytes key) (string_bytes text) self.new) }
     {
         match read_outline(alloc, key.as_str()) {
             Ok(outline) => self.add_entry(outline, text),
@@ -61,8 +61,7 @@ impl Keys {
 
     /// Adds the entry of a readable key.
     fn add_entry(&mut self, outline: Outline, text: String) -> Result<(), AllocError>
-        ensures entry { OnOk result (self.new ≡ record { entries = self.old.entries ++ record { outline = outline; text = string_bytes text } ∷ []; skipped = self.old.skipped; too_long = self.old.too_long }) }
-        ensures short { length outline ≤ 64 }
+        ensures { OnOk result (self.new ≡ with_entry self.old outline (string_bytes text)) }
     {
         self.entries.push(DictEntry::new(outline, Text::new(text)))?;
         Ok(())
@@ -70,7 +69,7 @@ impl Keys {
 
     /// Adds a key that has an unreadable part.
     fn add_skipped(&mut self, key: String) -> Result<(), AllocError>
-        ensures { OnOk result (self.new ≡ record { entries = self.old.entries; skipped = self.old.skipped ++ string_bytes key ∷ []; too_long = self.old.too_long }) }
+        ensures { OnOk result (self.new ≡ with_skipped self.old (string_bytes key)) }
     {
         self.skipped.push(Text::new(key))?;
         Ok(())
@@ -78,7 +77,7 @@ impl Keys {
 
     /// Notes a key that is too long, if it is the first.
     fn add_too_long(&mut self, key: String, parts: u64)
-        ensures { self.new ≡ record { entries = self.old.entries; skipped = self.old.skipped; too_long = option_or self.old.too_long (Some (string_bytes key, parts)) } }
+        ensures { self.new ≡ with_too_long self.old (string_bytes key) parts }
     {
         if self.too_long.is_none() {
             self.too_long = Some((Text::new(key), parts));

@@ -2,7 +2,14 @@
 
 ghost use Rattle.std.specs.Prelude.{◌≡◌, ℕ, List, Some};
 ghost use Rattle.serde_json.specs.Data.{Members, object};
+ghost use Rattle.dict_json.specs.Generated.{most_generated};
 ghost use Rattle.dict_json.specs.Reading.{AreInOrder, names_of, reading};
+ghost use Rattle.dict_json.specs.declared.generator.TheConstants.{MAX_GENERATED};
+
+/// The limits of the types are those that the definitions cite, and these numbers.
+pub fn limits()
+    ensures generated { (MAX_GENERATED ≡ most_generated) × (most_generated ≡ 100000) }
+{}
 
 /// The keys of an object that is read come in order of their bytes, each once. So the first of some of its keys is the least
 /// by bytes, and the last the greatest.

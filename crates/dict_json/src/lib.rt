@@ -18,6 +18,6 @@ mod texts;
 
 pub use dictionaries::{DictEntry, Dictionary};
 pub use faults::DictFault;
-pub use generator::generated;
+pub use generator::{MAX_GENERATED, generated};
 pub use reading::read_dictionary;
 pub use texts::Text;

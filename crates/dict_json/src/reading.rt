@@ -34,16 +34,10 @@ fn walk(alloc: Global, map: Map<String, Value>) -> Result<Keys, DictFault>
     ensures keys { IfOk result (λ keys. keys ≡ walked (filter_map keyed (members_of (members_view map.entries)))) }
     ensures err { IfErr result (IsDictCause (object_outcome (Some (members_view map.entries)))) }
 {
-    let Ok(mut keys) = Keys::with_capacity(alloc, map.len()) else {
-        return Err(DictFault::Memory);
-    };
+    let mut keys = Keys::with_capacity(alloc, map.len())?;
     for (key, value) in map {
         match value {
-            Value::String(text) => {
-                if keys.add(alloc, key, text).is_err() {
-                    return Err(DictFault::Memory);
-                }
-            }
+            Value::String(text) => keys.add(alloc, key, text)?,
             _ => return Err(DictFault::NotText {
                 key: Text::new(key),
             }),
@@ -68,16 +62,14 @@ fn read_object(alloc: Global, map: Map<String, Value>) -> Result<Dictionary, Dic
     if let Some((key, parts)) = too_long {
         return Err(DictFault::TooLong { key, parts });
     }
-    match keep_last_of_each(&mut entries) {
-        Ok(folded) => Ok(Dictionary::new(entries, skipped, folded)),
-        Err(_) => Err(DictFault::Memory),
-    }
+    let folded = keep_last_of_each(&mut entries)?;
+    Ok(Dictionary::new(entries, skipped, folded))
 }
 
 /// The dictionary of a file's bytes.
 ///
 /// Refused where the bytes have no reading by `serde_json`; where the value is no object; where some value is no text; and
-/// where some key has more than 64 parts, all readable. Of the causes that hold the first one in this order is told, and of
+/// where some key has more than [`Outline::MAX`](stroke::Outline::MAX) parts, all readable. Of the causes that hold the first one in this order is told, and of
 /// keys the first by bytes. The cost is that of reading the JSON and of sorting the entries; each text is kept once.
 pub fn read_dictionary(alloc: Global, bytes: &[u8]) -> Result<Dictionary, DictFault>
     requires { length bytes.now < 2 ^ 32 }

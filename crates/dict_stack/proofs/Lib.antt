@@ -1,6 +1,5 @@
 pub mod OrderLemmas
 pub mod FindLemmas
-pub mod EntryLemmas
 pub mod StrokeLemmas
 pub mod CollectLemmas
 pub mod EndLemmas

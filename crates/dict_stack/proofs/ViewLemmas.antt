@@ -3,11 +3,11 @@ use Rattle.std.proofs.Common.{◌≡◌, ℕ, ◌<◌, ◌≤◌, List, [], ◌�
 use Rattle.std.proofs.lemmas.List.{length-map}
 use Rattle.std.proofs.lemmas.List.Elements.{All-contains, All-map}
 use Rattle.std.proofs.lemmas.List.Quantifiers.{position-Some}
-use Rattle.steno_rules.specs.Outlines.{AreRising}
-use Rattle.steno_rules.proofs.Lists.{none_in_nil, in_map, all_of}
+use Rattle.steno_rules.specs.Outlines.{AreRising, IsOutline}
+use Rattle.steno_rules.proofs.Lists.{none_in_nil, all_of}
 use Rattle.dict_json.specs.Dictionaries.{DictionaryView, entry_outlines, in_order}
 use Rattle.dict_stack.specs.Stacks.{StackView, IsStack, stack_of, all_outlines, first_text, first_place, is_supplied, dictionary_has, most_entries, most_dictionaries}
-use Rattle.dict_stack.specs.inside.Candidates.{candidates_from, candidate_outline, said_first, some_word, IsShort, IsCollected, IsMerged}
+use Rattle.dict_stack.specs.inside.Candidates.{candidates_from, candidate_outline, said_first, some_word, IsCollected, IsMerged}
 use Rattle.dict_stack.specs.declared.candidates.Collected.{Collected}
 use Rattle.dict_stack.specs.declared.columns.Columns.{Columns}
 use Rattle.dict_json.proofs.InOrder.{in_order-rising, in_order-Contains}
@@ -15,8 +15,8 @@ use Rattle.dict_stack.proofs.ColumnLemmas.{map_same}
 use Rattle.dict_stack.proofs.StackLemmas.{candidates_outlines, said_text, said_place, some_words}
 
 -- The outlines that stand are those of the dictionaries.
-pub outlines_stand : (ds : List DictionaryView) (kinds : List Bool) (c : Collected) → IsCollected ds kinds c → in_order (map candidate_outline c.candidates.items) ≡ all_outlines ds
-outlines_stand ds kinds c is = ap in_order (ap (map candidate_outline) is.candidates_are ∙ candidates_outlines 0 ds kinds)
+pub outlines_stand : (ds : List DictionaryView) (word_files : List Bool) (c : Collected) → IsCollected ds word_files c → in_order (map candidate_outline c.candidates.items) ≡ all_outlines ds
+outlines_stand ds word_files c is = ap in_order (ap (map candidate_outline) is.candidates_are ∙ candidates_outlines 0 ds word_files)
 
 -- the stack of these parts
 abbrev pub view_of : Collected → Columns → StackView
@@ -29,38 +29,38 @@ view_of c columns = record {
   folded = c.folded_total;
 }
 
-module _ (ds : List DictionaryView) (kinds : List Bool) (c : Collected) (columns : Columns) (long : length kinds ≡ length ds) (collected : IsCollected ds kinds c) (merged : IsMerged c.candidates.items columns) where
+module _ (ds : List DictionaryView) (word_files : List Bool) (c : Collected) (columns : Columns) (long : length word_files ≡ length ds) (collected : IsCollected ds word_files c) (merged : IsMerged c.candidates.items columns) where
   -- each column is that of the stack
   outlines : columns.outlines.items ≡ all_outlines ds
-  outlines = merged.outlines_are ∙ outlines_stand ds kinds c collected
+  outlines = merged.outlines_are ∙ outlines_stand ds word_files c collected
 
   texts : columns.texts.items ≡ map (first_text ds) (all_outlines ds)
   texts =
       merged.texts_are
       ∙ ap₂ (λ l o. map (said_first (λ e. e.entry.text) [] l) o) collected.candidates_are outlines
-      ∙ map_same (said_first (λ e. e.entry.text) [] (candidates_from 0 ds kinds)) (first_text ds) (all_outlines ds) (λ x has. said_text ds kinds x)
+      ∙ map_same (said_first (λ e. e.entry.text) [] (candidates_from 0 ds word_files)) (first_text ds) (all_outlines ds) (λ x has. said_text ds word_files x)
 
   from : columns.from.items ≡ map (first_place ds) (all_outlines ds)
   from =
       merged.from_are
       ∙ ap₂ (λ l o. map (said_first (λ e. e.place) 0 l) o) collected.candidates_are outlines
-      ∙ map_same (said_first (λ e. e.place) 0 (candidates_from 0 ds kinds)) (first_place ds) (all_outlines ds) (λ x has. said_place ds kinds x)
+      ∙ map_same (said_first (λ e. e.place) 0 (candidates_from 0 ds word_files)) (first_place ds) (all_outlines ds) (λ x has. said_place ds word_files x)
 
-  words : columns.words.items ≡ map (is_supplied ds kinds) (all_outlines ds)
+  words : columns.words.items ≡ map (is_supplied ds word_files) (all_outlines ds)
   words =
       merged.words_are
       ∙ ap₂ (λ l o. map (some_word l) o) collected.candidates_are outlines
-      ∙ map_same (some_word (candidates_from 0 ds kinds)) (is_supplied ds kinds) (all_outlines ds) (λ x has. some_words ds kinds x long)
+      ∙ map_same (some_word (candidates_from 0 ds word_files)) (is_supplied ds word_files) (all_outlines ds) (λ x has. some_words ds word_files x long)
 
   -- The parts make the stack.
-  pub view_is : view_of c columns ≡ stack_of ds kinds
+  pub view_is : view_of c columns ≡ stack_of ds word_files
   view_is = rw (outlines, texts, from, words, collected.skipped_are, collected.folded_total_is) refl
 
-  -- each outline has 1 to 64 strokes
-  short : (x : List ℕ) → Contains columns.outlines.items x → IsShort x
-  short x has =
-      let found = in_map candidate_outline c.candidates.items x ((in_order-Contains (map candidate_outline c.candidates.items) x).0 (subst (λ l. Contains l x) merged.outlines_are has)) in
-      subst IsShort found.2 (All-contains (λ e. IsShort (candidate_outline e)) c.candidates.items found.0 collected.are_short found.1)
+  -- each is an outline
+  outline_is : (x : List ℕ) → Contains columns.outlines.items x → IsOutline x
+  outline_is x has =
+      All-contains IsOutline (map candidate_outline c.candidates.items) x collected.are_outlines
+      ((in_order-Contains (map candidate_outline c.candidates.items) x).0 (subst (λ l. Contains l x) merged.outlines_are has))
 
   -- there is an outline only where there is a dictionary
   some : (x : List ℕ) (dictionaries : List DictionaryView) → Contains (flat_map (λ d. entry_outlines d.entries) dictionaries) x → 0 < length dictionaries
@@ -86,9 +86,9 @@ module _ (ds : List DictionaryView) (kinds : List Bool) (c : Collected) (columns
       record {
         are_entries = record {
           rising = subst AreRising (sym merged.outlines_are) (in_order-rising (map candidate_outline c.candidates.items));
-          not_empty = all_of (λ e. 0 < length e) columns.outlines.items (λ x has. (short x has).0);
+          not_empty = all_of (λ e. 0 < length e) columns.outlines.items (λ x has. (outline_is x has).at_least);
         };
-        are_short = all_of (λ e. length e ≤ 64) columns.outlines.items (λ x has. (short x has).1);
+        are_outlines = all_of IsOutline columns.outlines.items outline_is;
         few_entries = few_entries;
         each_text = ap length merged.texts_are ∙ length-map columns.outlines.items (said_first (λ e. e.entry.text) [] c.candidates.items);
         each_place = ap length merged.from_are ∙ length-map columns.outlines.items (said_first (λ e. e.place) 0 c.candidates.items);

@@ -1,9 +1,9 @@
 -- The stack of dictionaries, the first of which has the highest priority.
---     stack_of dictionaries kinds     its entries in outline order, with their texts, and which of them are words
+--     stack_of dictionaries word_files    its entries in outline order, with their texts, and which of them are words
 --     IsStack s                       what every stack is
-use Rattle.std.specs.Prelude.{ℕ, ◌≡◌, ◌+◌, ◌<◌, ◌≤◌, ◌^◌, List, [], Bool, ◌&&◌, All, map, flat_map, find, zip, length, sum_by, unwrap_or, option_map, option_and_then, position}
+use Rattle.std.specs.Prelude.{ℕ, ◌≡◌, ◌+◌, ◌*◌, ◌<◌, ◌≤◌, ◌^◌, List, [], Bool, ◌&&◌, All, map, flat_map, find, zip, length, sum_by, unwrap_or, option_map, option_and_then, position}
 use Rattle.std.specs.List.{list_any}
-use Rattle.steno_rules.specs.Outlines.{AreEntries}
+use Rattle.steno_rules.specs.Outlines.{AreEntries, IsOutline}
 use Rattle.dict_json.specs.Dictionaries.{DictionaryView, entry_outlines, in_order, has_outline}
 
 -- the entries by number, with their translations, the places of the dictionaries that these are from, and which entries are words;
@@ -32,36 +32,37 @@ first_text dictionaries outline = unwrap_or (option_and_then (λ d. option_map (
 abbrev pub first_place : List DictionaryView → List ℕ → ℕ
 first_place dictionaries outline = unwrap_or (position (dictionary_has outline) dictionaries) 0
 
--- some dictionary has the outline whose kind says that its outlines are words
+-- some dictionary that supplies words has the outline
 abbrev pub is_supplied : List DictionaryView → List Bool → List ℕ → Bool
-is_supplied dictionaries kinds outline = list_any (λ d. d.1 && dictionary_has outline d.0) (zip dictionaries kinds)
+is_supplied dictionaries word_files outline = list_any (λ d. d.1 && dictionary_has outline d.0) (zip dictionaries word_files)
 
--- the kinds say of each dictionary whether its outlines are words
+-- the stack of these dictionaries, each of which supplies words where its truth value says so
 abbrev pub stack_of : List DictionaryView → List Bool → StackView
-stack_of dictionaries kinds = record {
+stack_of dictionaries word_files = record {
   outlines = all_outlines dictionaries;
   texts = map (first_text dictionaries) (all_outlines dictionaries);
   from = map (first_place dictionaries) (all_outlines dictionaries);
-  words = map (is_supplied dictionaries kinds) (all_outlines dictionaries);
+  words = map (is_supplied dictionaries word_files) (all_outlines dictionaries);
   skipped = map (λ d. d.skipped) dictionaries;
   folded = sum_by (λ d. d.folded) dictionaries;
 }
 
+-- the most entries of a stack
 abbrev pub most_entries : ℕ
 most_entries = 1048576
 
+-- the most dictionaries of a stack
 abbrev pub most_dictionaries : ℕ
 most_dictionaries = 16
 
--- the entries are in strictly rising order, none of them empty or longer than 64 strokes, each has a text, a place and a flag, and
--- all numbers are small
+-- the entries are outlines in strictly rising order, each has a text, a place and a flag, and all numbers are small
 pub record IsStack (s : StackView) : Type 0 where
   pub are_entries : AreEntries s.outlines
-  pub are_short : All (λ outline. length outline ≤ 64) s.outlines
+  pub are_outlines : All IsOutline s.outlines
   pub few_entries : length s.outlines ≤ most_entries
   pub each_text : length s.texts ≡ length s.outlines
   pub each_place : length s.from ≡ length s.outlines
   pub each_flag : length s.words ≡ length s.outlines
   pub are_places : All (λ place. place < length s.skipped) s.from
   pub few_dictionaries : length s.skipped ≤ most_dictionaries
-  pub few_keys : s.folded + sum_by length s.skipped ≤ 2 ^ 36
+  pub few_keys : s.folded + sum_by length s.skipped ≤ most_dictionaries * 2 ^ 32

@@ -1,7 +1,10 @@
 //! The entries of all dictionaries in one list, dictionary by dictionary.
 
 ghost use Rattle.std.specs.Prelude.{◌≡◌, ◌<◌, ◌≤◌, ◌+◌, ◌*◌, ◌++◌, ◌^◌, ◌∷◌, [], All, map, length, OnOk, IfOk};
-ghost use Rattle.dict_stack.specs.inside.Candidates.{candidate, IsCollected, IsShort};
+ghost use Rattle.steno_rules.specs.Outlines.{IsOutline};
+ghost use Rattle.dict_json.specs.Dictionaries.{entry_outlines};
+ghost use Rattle.dict_stack.specs.inside.Candidates.{candidate, AreFew, IsCollected};
+ghost use Rattle.dict_stack.specs.Stacks.{most_dictionaries};
 
 use dict_json::{DictEntry, Dictionary, Text};
 use std::alloc::{AllocError, Global};
@@ -32,13 +35,13 @@ pub struct Collected {
 impl Collected {
     /// Moves in what the next dictionary holds.
     fn add(&mut self, dictionary: Dictionary, is_word: bool) -> Result<(), AllocError>
-        requires few { length self.old.skipped.items < 16 }
-        requires few_keys { self.old.folded_total + self.old.skipped_total ≤ 15 * 2 ^ 32 }
+        requires few { length self.old.skipped.items < most_dictionaries }
+        requires few_keys { AreFew self.old }
         ensures candidates { OnOk result (self.new.candidates.items ≡ self.old.candidates.items ++ map (candidate (length self.old.skipped.items) is_word) dictionary.entries) }
         ensures skipped { OnOk result (map (λ keys. keys.items) self.new.skipped.items ≡ map (λ keys. keys.items) self.old.skipped.items ++ dictionary.skipped ∷ []) }
         ensures skipped_total { OnOk result (self.new.skipped_total ≡ self.old.skipped_total + length dictionary.skipped) }
         ensures folded_total { OnOk result (self.new.folded_total ≡ self.old.folded_total + dictionary.folded) }
-        ensures are_short { All (λ e. IsShort e.outline) dictionary.entries }
+        ensures are_outlines { All IsOutline (entry_outlines dictionary.entries) }
         ensures few_more { dictionary.folded + length dictionary.skipped < 2 ^ 32 }
     {
         let (entries, skipped, folded) = dictionary.into_parts();
@@ -56,8 +59,8 @@ pub fn collect(
     dictionaries: Vec<Dictionary>,
     word_files: &[bool],
 ) -> Result<Collected, AllocError>
-    requires few { length dictionaries.items ≤ 16 }
-    requires kinds { length word_files.now ≡ length dictionaries.items }
+    requires few { length dictionaries.items ≤ most_dictionaries }
+    requires each { length word_files.now ≡ length dictionaries.items }
     ensures { IfOk result (IsCollected dictionaries.items word_files.now) }
 {
     let mut collected = Collected {

@@ -10,12 +10,10 @@ ghost use Rattle.dict_stack.specs.Faults.{IsStackCause};
 
 use crate::candidates::Candidate;
 use crate::faults::StackFault;
+use crate::stacks::Stack;
 use dict_json::Text;
 use std::alloc::{AllocError, Global};
 use stroke::Outline;
-
-/// The most entries of a stack.
-const MAX_ENTRIES: usize = 1_048_576;
 
 /// The entries of a stack in outline order, column by column.
 #[derive(Drop)]
@@ -121,7 +119,7 @@ pub fn merge(alloc: Global, mut candidates: Vec<Candidate>) -> Result<Columns, S
 {
     sort(&mut candidates)?;
     let count = live_count(&candidates);
-    if count > MAX_ENTRIES {
+    if count > Stack::MAX_ENTRIES {
         return Err(StackFault::TooManyEntries {
             count: count as u64,
         });

@@ -9,10 +9,10 @@ use thiserror::Error;
 /// Why there is no stack of some dictionaries.
 #[derive(Clone, Copy, Debug, PartialEq, Eq, Error)]
 pub enum StackFault {
-    /// There are more than 1,048,576 different outlines.
+    /// There are so many different outlines, more than [`Stack::MAX_ENTRIES`](crate::Stack::MAX_ENTRIES).
     #[error("{count} entries are more than 1,048,576")]
     TooManyEntries { count: u64 },
-    #[error("there is not enough memory")]
+    #[error("out of memory")]
     Memory,
 }
 

@@ -13,6 +13,7 @@
 mod candidates;
 mod columns;
 mod faults;
+pub mod laws;
 mod stacks;
 mod stroke_numbers;
 

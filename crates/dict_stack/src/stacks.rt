@@ -1,7 +1,7 @@
 //! The stack of dictionaries, the first of which has the highest priority.
 
 ghost use Rattle.std.specs.Prelude.{◌≡◌, ◌<◌, ◌≤◌, ◌+◌, ◌^◌, [], All, length, sum_by, slice_index, slice_index_or, IfOk, IfErr};
-ghost use Rattle.steno_rules.specs.Outlines.{AreEntries, AreWords, entry_number, outline_of, flagged_entries};
+ghost use Rattle.steno_rules.specs.Outlines.{AreEntries, AreWords, IsOutline, entry_number, outline_of, flagged_entries};
 ghost use Rattle.dict_stack.specs.Stacks.{stack_of, all_outlines, most_entries, most_dictionaries};
 ghost use Rattle.dict_stack.specs.Appearances.{strokes_of_all, stroke_number_of};
 ghost use Rattle.dict_stack.specs.Faults.{IsStackCause};
@@ -15,7 +15,7 @@ use std::alloc::Global;
 use std::marker::Model;
 use stroke::{Outline, Stroke};
 
-/// Up to sixteen dictionaries as one: the outlines that some dictionary has, in outline order, each with the translation of the
+/// Up to [`Stack::MAX_DICTIONARIES`] dictionaries as one: the outlines that some dictionary has, in outline order, each with the translation of the
 /// first dictionary that has it.
 ///
 /// An entry is named by its place among them, its number. Some dictionaries only translate: an entry is a word where some other
@@ -47,17 +47,23 @@ impl Model for Stack {
 }
 
 impl Stack {
+    /// The most entries of a stack.
+    pub const MAX_ENTRIES: usize = 1_048_576;
+
+    /// The most dictionaries of a stack.
+    pub const MAX_DICTIONARIES: usize = 16;
+
     /// The stack of dictionaries by falling priority, each of which supplies words where its truth value says so.
     ///
     /// Translations and outlines are moved, not copied. The cost is that of merging the dictionaries, and of a look-up in a hash
-    /// table for each stroke. Refused where more than 1,048,576 outlines stand.
+    /// table for each stroke. Refused where more than [`Stack::MAX_ENTRIES`] outlines stand.
     pub fn new(
         alloc: Global,
         dictionaries: Vec<Dictionary>,
         word_files: Vec<bool>,
     ) -> Result<Stack, StackFault>
         requires few { length dictionaries.items ≤ most_dictionaries }
-        requires kinds { length word_files.items ≡ length dictionaries.items }
+        requires each { length word_files.items ≡ length dictionaries.items }
         ensures stack { IfOk result (λ stack. stack ≡ stack_of dictionaries.items word_files.items) }
         ensures few_entries { IfOk result (λ _. length (all_outlines dictionaries.items) ≤ most_entries) }
         ensures err { IfErr result (IsStackCause (all_outlines dictionaries.items)) }
@@ -99,7 +105,7 @@ impl Stack {
     pub fn outlines(&self) -> &[Outline]
         ensures outlines { result.now ≡ self.now.outlines }
         ensures are_entries { AreEntries self.now.outlines }
-        ensures are_short { All (λ outline. length outline ≤ 64) self.now.outlines }
+        ensures are_outlines { All IsOutline self.now.outlines }
         ensures few { length self.now.outlines ≤ most_entries }
     {
         self.outlines.as_slice()

@@ -13,8 +13,9 @@
 mod pieces;
 mod showing;
 
-pub use pieces::{Piece, longest, segment};
+pub use pieces::{longest, segment};
 pub use showing::shows;
+pub use stroke::Piece;
 
 #[cfg(test)]
 mod tests;

@@ -2,7 +2,7 @@
 use Rattle.std.proofs.Common.{◌≡◌, ◌≢◌, ℕ, ◌+◌, ◌<◌, ◌≤◌, List, [], ◌∷◌, ◌++◌, length, get_or, sym, ap, ap₂, subst, ◌∙◌, arith, Bool, true, false, Option, Some, None}
 use Rattle.std.specs.Prelude.{option_map, unwrap_or, MatchOption, is_some}
 use Rattle.std.proofs.lemmas.List.{length_push, get_or_default, get_or_read}
-use Rattle.longest_match.specs.Pieces.{piece_of}
+use Rattle.stroke.specs.Pieces.{piece_of}
 use Rattle.steno_rules.specs.Outlines.{is_entry, entry_number}
 use Rattle.steno_rules.specs.Segments.{last_piece}
 use Rattle.steno_rules.specs.Windows.{is_prefix, window}

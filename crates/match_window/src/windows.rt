@@ -2,18 +2,17 @@
 ghost use Rattle.std.specs.Prelude.{◌≡◌, ◌↔◌, ◌++◌, ◌∷◌, ◌-◌, [], ℕ, take, length, Some, IsBitSet, IfOk, option_map};
 ghost use Rattle.steno_rules.specs.Segments.{last_piece as last_piece_of};
 ghost use Rattle.steno_rules.specs.Windows.{window};
-ghost use Rattle.longest_match.specs.Pieces.{piece_of};
+ghost use Rattle.stroke.specs.Pieces.{piece_of};
 ghost use Rattle.outline_trie.specs.Tries.{IsNode, node_strokes, suffix_of};
 ghost use Rattle.match_window.specs.Ends.{StartsPiece, shorter_end as shorter_end_of};
 
 use crate::alone::alone_of;
 use crate::columns::{Columns, columns_of};
-use longest_match::Piece;
 use outline_trie::Trie;
 use smallvec::SmallVec;
 use std::alloc::{AllocError, Global};
 use std::marker::Model;
-use stroke::Stroke;
+use stroke::{Piece, Stroke};
 
 /// What one more stroke makes of a window.
 #[derive(Clone, Copy, Debug, PartialEq, Eq)]

@@ -7,7 +7,7 @@ use Rattle.std.proofs.lemmas.Bool.{lt-ltb, ltb-true}
 use Rattle.std.proofs.lemmas.List.{length-append}
 use Rattle.std.proofs.lemmas.List.Elements.{All-cons, recursion_from_All}
 use Rattle.text_rules.proofs.Splits.{some_part}
-use Rattle.steno_rules.specs.Outlines.{IsStroke}
+use Rattle.steno_rules.specs.Outlines.{IsStroke, IsOutline, most_strokes}
 use Rattle.steno_order.specs.declared.pressed.Pressed.{Pressed}
 use Rattle.steno_order.specs.Keys.{has, slash}
 use Rattle.steno_order.specs.Canonical.{keys_from, mark, needs_bar, needs_hyphen, bar_text, hyphen_text, canonical, canonical_text}
@@ -17,7 +17,7 @@ use Rattle.steno_order.specs.inside.Steps.{after_character, stroke_with, spelt_f
 use Rattle.steno_order.proofs.Ranges.{both}
 use Rattle.steno_order.proofs.Spellings.{Spelling-stroke}
 use Rattle.steno_order.proofs.Steps.{nothing, stroke_of-steps}
-use Rattle.steno_order.proofs.Lists.{canonical-SpellingOfAll, SpellingOfAll-strokes}
+use Rattle.steno_order.proofs.Lists.{canonical-SpellingOfAll, SpellingOfAll-strokes, strokes-SpellingOfAll}
 
 -- what is read is a stroke
 with-IsStroke : (n code : ℕ) → stroke_with n ≡ Some code → IsStroke code
@@ -64,6 +64,15 @@ SpellingOfAll-some text h = by (parts_of text) refl h
     by : (parts : List (List ℕ)) → parts_of text ≡ parts → AllZip Spelling parts [] → ⊥
     by [] e h = some_part slash text e
     by (p ∷ ps) e h = h
+
+-- what a text spells is an outline, unless it is too long: a reader of outlines need not test it
+pub spelt_strokes-IsOutline : (text strokes : List ℕ) → spelt_strokes text ≡ Some strokes → length strokes ≤ most_strokes → IsOutline strokes
+spelt_strokes-IsOutline text [] e few = absurd (SpellingOfAll-some text (strokes-SpellingOfAll text [] e))
+spelt_strokes-IsOutline text (s ∷ ss) e few = record {
+  at_least = omega arith;
+  at_most = few;
+  each = SpellingOfAll-IsStroke text (s ∷ ss) (strokes-SpellingOfAll text (s ∷ ss) e);
+}
 
 -- a list of values is none just where one of its members is
 first_none : (os : List (Option ℕ)) → all_some os ≡ None → position_or_len is_none os < length os
@@ -130,5 +139,5 @@ canonical_text-length (s ∷ t ∷ ss) =
     let all = length-append (canonical s) (slash ∷ canonical_text (t ∷ ss)) in
     omega (arith, one, rest, all)
 
-pub canonical_text-short : (strokes : List ℕ) → length strokes ≤ 64 → length (canonical_text strokes) < 2 ^ 32
+pub canonical_text-short : (strokes : List ℕ) → length strokes ≤ most_strokes → length (canonical_text strokes) < 2 ^ 32
 canonical_text-short strokes le = let l = canonical_text-length strokes in omega (arith, l, le)

@@ -6,6 +6,7 @@ use Rattle.std.specs.Option.{is_none}
 use Rattle.std.specs.List.{position_or_len}
 use Rattle.std.proofs.lemmas.Bool.{lt-ltb}
 use Rattle.std.proofs.lemmas.List.{length-map, length-append, map-append, take_more_set, length-set}
+use Rattle.steno_rules.specs.Outlines.{most_strokes}
 use Rattle.steno_order.specs.Reading.{readings, all_some, spelt_strokes, unreadable_part}
 use Rattle.steno_order.specs.inside.Steps.{readings_left}
 
@@ -55,13 +56,13 @@ none_next text strokes bytes others h next =
     let long : length (map Some strokes ++ None ∷ others) ≡ length strokes + (length others + 1) = length-append (map Some strokes) (None ∷ others) ∙ (let l : length (map Some strokes) ≡ length strokes = simp length-map in omega (arith, l)) in
     ap (position is_none) (h.whole ∙ ap (λ r. map Some strokes ++ r) next) ∙ rw (at, lt-ltb (length strokes) (length (map Some strokes ++ None ∷ others)) (omega (arith, long))) refl
 
--- the strokes of the parts so far are at the front of the 64 places, while they have room there
+-- the strokes of the parts so far are at the front of the places, while they have room there
 pub record IsHeld (text places : List ℕ) (parts : ℕ) (rest : Option (List ℕ)) : Type 0 where
   pub strokes : List ℕ
-  pub size : length places ≡ 64
+  pub size : length places ≡ most_strokes
   pub read : IsRead text strokes rest
   pub count : length strokes ≡ parts
-  pub held : parts ≤ 64 → take parts places ≡ strokes
+  pub held : parts ≤ most_strokes → take parts places ≡ strokes
 
 pub one_held : (text places bytes : List ℕ) (parts stroke : ℕ) (rest : Option (List ℕ)) → IsHeld text places parts (Some bytes) → readings bytes ≡ Some stroke ∷ readings_left rest → room rest ≤ length bytes → IsHeld text (set places parts stroke) (parts + 1) rest
 one_held text places bytes parts stroke rest h first less =

@@ -3,6 +3,7 @@
 --     IsOutlineCause text fault    why the text isn't read as an outline
 -- Want of memory says nothing of it.
 use Rattle.std.specs.Prelude.{ℕ, ◌<◌, ◌≡◌, List, Some, length}
+use Rattle.steno_rules.specs.Outlines.{most_strokes}
 use Rattle.steno_order.specs.declared.faults.StrokesFault.{StrokesFault}
 use Rattle.steno_order.specs.declared.faults.StrokesFault.TheVariants as strokes
 use Rattle.steno_order.specs.declared.faults.OutlineFault.{OutlineFault}
@@ -14,8 +15,8 @@ abbrev pub IsStrokesCause : List ℕ → StrokesFault → Type 0
 IsStrokesCause text (strokes.Unreadable part) = unreadable_part text ≡ Some part
 IsStrokesCause text strokes.Memory = Unit {0}
 
--- the part is the first that spells no stroke; or each spells one, and the parts are so many, more than 64
+-- the part is the first that spells no stroke; or each spells one, and the parts are so many, more than an outline has
 abbrev pub IsOutlineCause : List ℕ → OutlineFault → Type 0
 IsOutlineCause text (outline.Unreadable part) = unreadable_part text ≡ Some part
-IsOutlineCause text (outline.TooLong parts) = (strokes : List ℕ) × (spelt_strokes text ≡ Some strokes) × (length strokes ≡ parts) × (64 < parts)
+IsOutlineCause text (outline.TooLong parts) = (strokes : List ℕ) × (spelt_strokes text ≡ Some strokes) × (length strokes ≡ parts) × (most_strokes < parts)
 IsOutlineCause text outline.Memory = Unit {0}

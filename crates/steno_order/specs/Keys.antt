@@ -10,6 +10,7 @@
 use Rattle.std.specs.Prelude.{ℕ, ◌/◌, ◌%◌, ◌^◌, List, Bool, ◌+◌, ◌&&◌, ◌||◌, ◌==◌, nat_lt, slice_index, codes, sum_by, if◌then◌else◌}
 use Rattle.std.specs.List.{list_any}
 use Rattle.std.specs.Char.{is_ascii_digit}
+use Rattle.steno_rules.specs.Outlines.{key_count}
 
 -- the letter of each key
 abbrev pub letter : ℕ → ℕ
@@ -21,7 +22,7 @@ numbered key = slice_index (codes "#12K3W4R50*EU6R7B8G9SDZ") key
 
 -- the character is the letter or the digit of the key
 abbrev pub is_written : ℕ → ℕ → Bool
-is_written c key = nat_lt key 23 && (letter key == c || numbered key == c)
+is_written c key = nat_lt key key_count && (letter key == c || numbered key == c)
 
 -- the bit of the key is set
 abbrev pub has : ℕ → ℕ → Bool

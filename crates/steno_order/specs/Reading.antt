@@ -7,13 +7,14 @@
 use Rattle.std.specs.Prelude.{ℕ, List, [], ◌∷◌, ◌++◌, ◌&&◌, ◌==◌, nat_lt, nat_le, if◌then◌else◌, find, map, position, Option, Some, None, option_map, option_and_then}
 use Rattle.std.specs.Option.{is_none}
 use Rattle.std.specs.List.{list_all, range_with_len}
+use Rattle.steno_rules.specs.Outlines.{key_count}
 use Rattle.text_rules.specs.Lines.{parts_between}
 use Rattle.steno_order.specs.Keys.{is_written, keys_code, has_bar, hyphen, bar}
 use Rattle.steno_order.specs.Spelling.{parts_of}
 
 -- the first key after `last` and from `least` on that is written with the character
 abbrev pub first_key : ℕ → ℕ → ℕ → Option ℕ
-first_key last least c = find (λ key. is_written c key && (nat_lt last key && nat_le least key)) (range_with_len 0 23)
+first_key last least c = find (λ key. is_written c key && (nat_lt last key && nat_le least key)) (range_with_len 0 key_count)
 
 -- the last of the keys, where `key` came before them
 abbrev pub last_of : ℕ → List ℕ → ℕ

@@ -3,7 +3,7 @@
 //! Each is a function that does nothing; its contract is the law.
 
 ghost use Rattle.std.specs.Prelude.{◌≡◌, ◌<◌, ◌≤◌, ◌^◌, ◌↔◌, All, List, None, Option, Some, [], length, ℕ};
-ghost use Rattle.steno_rules.specs.Outlines.{IsStroke};
+ghost use Rattle.steno_rules.specs.Outlines.{IsStroke, most_strokes};
 ghost use Rattle.steno_order.specs.Canonical.{canonical, canonical_text};
 ghost use Rattle.steno_order.specs.Reading.{stroke_of, spelt_strokes, unreadable_part};
 ghost use Rattle.steno_order.specs.Spelling.{Spelling, SpellingOfAll, parts_of};
@@ -36,5 +36,5 @@ pub fn list_spellings()
 pub fn canonical_lists()
     ensures spells { (strokes : List ℕ) → 0 < length strokes → All IsStroke strokes → SpellingOfAll (canonical_text strokes) strokes }
     ensures back { (strokes : List ℕ) → 0 < length strokes → All IsStroke strokes → spelt_strokes (canonical_text strokes) ≡ Some strokes }
-    ensures short { (strokes : List ℕ) → length strokes ≤ 64 → length (canonical_text strokes) < 2 ^ 32 }
+    ensures short { (x : List ℕ) → length x ≤ most_strokes → length (canonical_text x) < 2 ^ 32 }
 {}

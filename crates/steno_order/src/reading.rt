@@ -1,6 +1,7 @@
 //! Reading: a text's characters in one pass, part by part.
 
 ghost use Rattle.std.specs.Prelude.{◌≡◌, ◌+◌, ◌∷◌, ◌<◌, ◌≤◌, ◌^◌, List, ℕ, IfErr, IfOk, IfSome, MatchOption, None, Option, Some, is_some, length, option_map, slice_set};
+ghost use Rattle.steno_rules.specs.Outlines.{IsOutline};
 ghost use Rattle.steno_order.specs.Reading.{readings, stroke_of, spelt_strokes};
 ghost use Rattle.steno_order.specs.Faults.{IsOutlineCause, IsStrokesCause};
 ghost use Rattle.steno_order.specs.inside.Steps.{readings_left};
@@ -70,9 +71,7 @@ pub fn read_strokes(alloc: Global, text: &str) -> Result<Vec<Stroke>, StrokesFau
                 part: strokes.len() as u32,
             });
         };
-        if strokes.push(part.stroke).is_err() {
-            return Err(StrokesFault::Memory);
-        }
+        strokes.push(part.stroke)?;
         rest = part.rest;
     }
     Ok(strokes)
@@ -92,12 +91,13 @@ pub fn is_readable(text: &str) -> bool
     true
 }
 
-/// The outline that a text spells: as [`read_strokes`], for at most 64 strokes.
+/// The outline that a text spells: as [`read_strokes`], for at most [`Outline::MAX`] strokes.
 ///
 /// Costs one step a character, and memory once, of the outline's length.
 pub fn read_outline(alloc: Global, text: &str) -> Result<Outline, OutlineFault>
     requires { length text.now < 2 ^ 32 }
     ensures ok { IfOk result (λ outline. spelt_strokes text.now ≡ Some outline) }
+    ensures is_outline { IfOk result IsOutline }
     ensures err { IfErr result (IsOutlineCause text.now) }
 {
     let mut strokes = [Stroke::default(); Outline::MAX];
@@ -116,10 +116,7 @@ pub fn read_outline(alloc: Global, text: &str) -> Result<Outline, OutlineFault>
             parts: parts as u64,
         });
     }
-    match Outline::from_strokes(alloc, &strokes[..parts]) {
-        Ok(outline) => Ok(outline),
-        Err(_) => Err(OutlineFault::Memory),
-    }
+    Ok(Outline::from_strokes(alloc, &strokes[..parts])?)
 }
 
 /// Puts a stroke into its place, unless it lies behind the last one.

@@ -1,10 +1,10 @@
 //! A list of strokes, as a dictionary translates it.
 
-ghost use Rattle.std.specs.Prelude.{◌≡◌, ◌<◌, ◌≤◌, [], ◌∷◌, ◌++◌, length, slice_index_or, OnOk, OnErr, IfOk};
+ghost use Rattle.std.specs.Prelude.{◌≡◌, ◌<◌, ◌≤◌, [], ◌∷◌, ◌++◌, All, length, slice_index_or, OnOk, OnErr, IfOk};
 ghost use Rattle.std.specs.Prelude.{nat_eq, refl, Some};
 ghost use Rattle.std.specs.Cmp.{partial_equiv_from_equiv};
 ghost use Rattle.std.specs.Cmp.Lexicographic.{nat_list_cmp_total, nat_list_eq_equiv, pointwise, texts_po, texts_ties};
-ghost use Rattle.steno_rules.specs.Outlines.{outline_cmp};
+ghost use Rattle.steno_rules.specs.Outlines.{IsStroke, most_strokes, outline_cmp};
 ghost use Rattle.stroke.specs.inside.Heads.{IsCodeAt, IsHead};
 
 use crate::strokes::Stroke;
@@ -12,7 +12,7 @@ use std::alloc::{AllocError, Global};
 use std::cmp::Ordering;
 use std::marker::Model;
 
-/// A list of at most 64 strokes, seen as the list of their codes. Outlines are ordered stroke by stroke, a prefix first.
+/// A list of at most [`Outline::MAX`] strokes, seen as the list of their codes. Outlines are ordered stroke by stroke, a prefix first.
 ///
 /// An entry of a dictionary has at least one stroke. The type has room for the empty list, with which building begins.
 /// Beside the list the first two strokes stand as one number: it decides most comparisons without a look at the list.
@@ -31,6 +31,15 @@ impl Model for Outline {
     ghost view = { λ o. o.strokes.items };
 
     ghost invariant = { λ o. IsHeaded o.strokes.items o.head };
+}
+
+/// Each value of the type of strokes is the code of one. Nothing of this is left in a program: the loop does no work.
+fn are_strokes(strokes: &[Stroke])
+    ensures { All IsStroke strokes.now }
+{
+    for stroke in strokes {
+        stroke.code();
+    }
 }
 
 /// The code at a place of some strokes, 0 behind their end.
@@ -68,10 +77,11 @@ impl Outline {
 
     /// Adds a stroke at the end.
     pub fn push(&mut self, stroke: Stroke) -> Result<(), AllocError>
-        requires { length self.old < 64 }
+        requires { length self.old < most_strokes }
         ensures ok { OnOk result (self.new ≡ self.old ++ stroke ∷ []) }
         ensures err { OnErr result (self.new ≡ self.old) }
     {
+        are_strokes(&[stroke]);
         self.strokes.push(stroke)?;
         self.head = head_of(&self.strokes);
         Ok(())
@@ -79,9 +89,10 @@ impl Outline {
 
     /// The outline of these strokes, in one allocation.
     pub fn from_strokes(alloc: Global, strokes: &[Stroke]) -> Result<Outline, AllocError>
-        requires { length strokes.now ≤ 64 }
+        requires { length strokes.now ≤ most_strokes }
         ensures { IfOk result (λ outline. outline ≡ strokes.now) }
     {
+        are_strokes(strokes);
         Ok(Outline {
             strokes: strokes.to_vec(alloc)?,
             head: head_of(strokes),
@@ -91,7 +102,8 @@ impl Outline {
     /// The strokes, first one first.
     pub fn strokes(&self) -> &[Stroke]
         ensures strokes { result.now ≡ self.now }
-        ensures few { length self.now ≤ 64 }
+        ensures few { length self.now ≤ most_strokes }
+        ensures are_strokes { All IsStroke self.now }
     {
         self.strokes.as_slice()
     }

@@ -1,7 +1,7 @@
-//! One stroke: a set of keys, kept as a number of 23 bits.
+//! One stroke: a set of keys, kept as a number with a bit for each key.
 
 ghost use Rattle.std.specs.Prelude.{◌≡◌, ◌<◌, ◌↔◌, IsTrue, IsBitSet, SomeIff};
-ghost use Rattle.steno_rules.specs.Outlines.{IsStroke};
+ghost use Rattle.steno_rules.specs.Outlines.{IsStroke, key_count};
 
 use std::marker::Model;
 
@@ -25,11 +25,14 @@ impl Model for Stroke {
 }
 
 impl Stroke {
+    /// How many keys there are.
+    pub const KEYS: u8 = 23;
+
     /// The stroke of a code from 1 to 8,388,607, which has one bit for each of the 23 keys.
     pub fn new(code: u32) -> Option<Stroke>
         ensures { SomeIff result (IsStroke code) code }
     {
-        if code == 0 || code >= 0x80_0000 {
+        if code == 0 || code >= 1 << Stroke::KEYS {
             return None;
         }
         Some(Stroke { code })
@@ -43,12 +46,12 @@ impl Stroke {
         self.code
     }
 
-    /// Whether the key of this number is pressed. The keys have the numbers 0 to 22 in steno order.
+    /// Whether the key of this number is pressed. The keys have the numbers from 0 in steno order.
     #[tactic(auto, using(std::proofs::lemmas::Nat::bit_set_by_shift))]
     pub fn has(self, key: u8) -> bool
-        ensures { IsTrue result ↔ ((key < 23) × IsBitSet self key) }
+        ensures { IsTrue result ↔ ((key < key_count) × IsBitSet self key) }
     {
-        key < 23 && (self.code >> key) & 1 == 1
+        key < Stroke::KEYS && (self.code >> key) & 1 == 1
     }
 }
 

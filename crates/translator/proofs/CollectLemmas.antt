@@ -1,8 +1,8 @@
 -- The list of pieces, as each push changes it.
 use Rattle.std.proofs.Common.{◌≡◌, ℕ, ◌-◌, ◌≤◌, List, [], ◌∷◌, ◌++◌, length, take, sym, ap, ◌∙◌, arith, length-append}
 use Rattle.std.proofs.lemmas.List.{length-map, length-take-le, take_at}
-use Rattle.longest_match.specs.declared.pieces.Piece.{Piece}
-use Rattle.longest_match.specs.Pieces.{piece_of, pieces as pieces_of}
+use Rattle.stroke.specs.declared.pieces.Piece.{Piece}
+use Rattle.stroke.specs.Pieces.{piece_of, pieces as pieces_of}
 use Rattle.steno_rules.specs.Segments.{segments}
 use Rattle.translation_laws.proofs.WindowEnds.{segments-few}
 use Rattle.translator.specs.declared.translator.Merge.{Merge}

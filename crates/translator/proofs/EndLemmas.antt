@@ -1,7 +1,7 @@
 -- The ends of pieces: what each of them tells, and what becomes of them by one more stroke.
 use Rattle.std.proofs.Common.{◌≡◌, ℕ, zero, suc, ◌+◌, ◌<◌, ◌≤◌, List, [], ◌∷◌, ◌++◌, length, take, drop, map, get_or, refl, sym, ap, ◌∙◌, arith, ◌⊎◌, inl, inr, Option, Some, None, Bool, true, false, true≢false, cond, not, is_some, append_assoc, append-nil}
 use Rattle.std.specs.List.{concat, AllByRecursion}
-use Rattle.longest_match.specs.Pieces.{piece_of}
+use Rattle.stroke.specs.Pieces.{piece_of}
 use Rattle.outline_trie.proofs.LookLemmas.{front_none, node_test, root_is, root_number}
 use Rattle.steno_rules.specs.Live.{merge}
 use Rattle.steno_rules.specs.Nodes.{nodes}

@@ -3,8 +3,8 @@ use Rattle.std.proofs.Common.{◌≡◌, ℕ, ◌+◌, ◌-◌, ◌≤◌, List,
 use Rattle.std.specs.List.{concat}
 use Rattle.std.proofs.lemmas.List.{get_or_read, length_push, length-map, length-take-le, length-drop, map-append, take-map, drop_all, drop-map, take-append-drop}
 use Rattle.std.proofs.lemmas.List.Elements.{All-from_recursion}
-use Rattle.longest_match.specs.declared.pieces.Piece.{Piece}
-use Rattle.longest_match.specs.Pieces.{piece_of, pieces as pieces_of}
+use Rattle.stroke.specs.declared.pieces.Piece.{Piece}
+use Rattle.stroke.specs.Pieces.{piece_of, pieces as pieces_of}
 use Rattle.outline_trie.specs.Tries.{longest_of}
 use Rattle.outline_trie.proofs.DepthLemmas.{prefix_short}
 use Rattle.steno_rules.specs.Live.{merge}

@@ -2,7 +2,7 @@
 --     Translation              the entries, and all strokes that were pushed so far
 --     IsMerge old new merge    the last pieces of old are replaced by one, as the merge says, which makes new
 use Rattle.std.specs.Prelude.{ℕ, ◌≡◌, List, [], ◌∷◌, ◌++◌, length}
-use Rattle.longest_match.specs.declared.pieces.Piece.{Piece}
+use Rattle.stroke.specs.declared.pieces.Piece.{Piece}
 use Rattle.translator.specs.declared.translator.Merge.{Merge}
 
 pub record Translation : Type 0 where

@@ -3,11 +3,10 @@
 ghost use Rattle.std.specs.Prelude.{◌≡◌, ◌+◌, ◌≤◌, ◌<◌, ◌++◌, ◌∷◌, [], All, drop, is_some, length, position, vec_capacity, Some};
 ghost use Rattle.translator.specs.inside.Ends.{IsAdvance, IsEnd, longer_end, is_entry_end, lost_ends, piece_at};
 
-use longest_match::Piece;
 use outline_trie::Trie;
 use std::sync::ledger::Ledger;
 use steps::Steps;
-use stroke::Stroke;
+use stroke::{Piece, Stroke};
 
 /// An end with one stroke more. At most one look-up.
 fn grow<L: Ledger>(

@@ -2,14 +2,14 @@
 ghost use Rattle.std.specs.Prelude.{◌≡◌, ◌<◌};
 
 use crate::{Merge, Translator, translate};
-use longest_match::{Piece, segment};
+use longest_match::segment;
 use outline_trie::Trie;
 use std::alloc::{AllocError, Global};
 use std::marker::Brand;
 use std::process::Abort;
 use std::sync::ledger::{Blank, Ledger};
 use steps::Steps;
-use stroke::{Outline, Stroke, are_entries};
+use stroke::{Outline, Piece, Stroke, are_entries};
 
 const S: u32 = 2;
 

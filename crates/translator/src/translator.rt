@@ -1,19 +1,18 @@
 //! The translator and its pushes.
 ghost use Rattle.std.specs.Prelude.{◌≡◌, ◌+◌, ◌≤◌, ◌++◌, ◌∷◌, [], IfOk};
 ghost use Rattle.steno_rules.specs.Windows.{window};
-ghost use Rattle.longest_match.specs.Pieces.{pieces as pieces_of};
+ghost use Rattle.stroke.specs.Pieces.{pieces as pieces_of};
 ghost use Rattle.outline_trie.specs.Tries.{longest_of};
 ghost use Rattle.translator.specs.Translations.{IsMerge};
 
 use crate::ends::{advance, piece_of_end, trim};
 use history::History;
-use longest_match::Piece;
 use outline_trie::Trie;
 use std::alloc::{AllocError, Global};
 use std::marker::Model;
 use std::sync::ledger::Ledger;
 use steps::Steps;
-use stroke::Stroke;
+use stroke::{Piece, Stroke};
 
 /// What a stroke changes: the last pieces, as many as `replaced`, give way to one.
 #[derive(Clone, Copy, Debug, PartialEq, Eq)]

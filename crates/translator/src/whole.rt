@@ -1,15 +1,14 @@
 //! A whole list of strokes, one by one.
 ghost use Rattle.std.specs.Prelude.{◌≡◌, ◌<◌, length, sum_by, All, IfOk, IfSome};
-ghost use Rattle.longest_match.specs.Pieces.{pieces as pieces_of};
+ghost use Rattle.stroke.specs.Pieces.{pieces as pieces_of};
 
 use crate::translator::Translator;
-use longest_match::Piece;
 use outline_trie::Trie;
 use std::alloc::{AllocError, Global};
 use std::marker::Brand;
 use std::sync::ledger::{Blank, Ledger};
 use steps::Steps;
-use stroke::Stroke;
+use stroke::{Piece, Stroke};
 
 /// The pieces of a list of strokes, first one first: each stroke is pushed, and what the push answers is done to the pieces.
 pub fn translate(alloc: Global, trie: &Trie, strokes: &[Stroke]) -> Result<Vec<Piece>, AllocError>

@@ -12,6 +12,7 @@ use Rattle.std.specs.Prelude.{ℕ, ◌+◌, ◌^◌, List, [], ◌∷◌, ◌++�
 use Rattle.std.specs.List.{list_all, list_any, range_with_len}
 use Rattle.std.specs.Char.{is_ascii_digit}
 use Rattle.std.specs.Int.Bits.{bit_or}
+use Rattle.steno_rules.specs.Outlines.{key_count}
 use Rattle.steno_order.specs.declared.pressed.Pressed.{Pressed}
 use Rattle.steno_order.specs.Keys.{is_written, has, hyphen, slash}
 use Rattle.steno_order.specs.Canonical.{canonical}
@@ -20,11 +21,11 @@ use Rattle.steno_order.specs.Reading.{stroke_of, readings}
 
 -- the keys of the code are those that are written with the character
 abbrev pub has_keys : ℕ → ℕ → Bool
-has_keys c keys = nat_lt keys (2 ^ 23) && list_all (λ key. if is_written c key then has keys key else not (has keys key)) (range_with_len 0 23)
+has_keys c keys = nat_lt keys (2 ^ key_count) && list_all (λ key. if is_written c key then has keys key else not (has keys key)) (range_with_len 0 key_count)
 
 -- the first key from `next` on that is written with the character
 unfoldable pub next_key_of : ℕ → ℕ → Option ℕ
-next_key_of next c = find (λ key. is_written c key && nat_le next key) (range_with_len 0 23)
+next_key_of next c = find (λ key. is_written c key && nat_le next key) (range_with_len 0 key_count)
 
 -- after_character a hyphen, where none came before it and no key from 13 on
 abbrev pub divided : Pressed → Option Pressed
@@ -40,7 +41,7 @@ after_character p c = if c == hyphen then divided p else option_map (with_key p 
 
 -- the code, if it is that of a stroke
 abbrev pub stroke_with : ℕ → Option ℕ
-stroke_with code = if nat_lt 0 code && nat_lt code (2 ^ 23) then Some code else None
+stroke_with code = if nat_lt 0 code && nat_lt code (2 ^ key_count) then Some code else None
 
 -- the stroke, if this text goes on from the state to one
 abbrev pub spelt_from : Pressed → List ℕ → Option ℕ
@@ -63,7 +64,7 @@ readings_left (Some text) = readings text
 
 -- the stroke has one of these keys
 unfoldable pub has_one : ℕ → ℕ → Bool
-has_one code keys = list_any (λ key. has keys key && has code key) (range_with_len 0 23)
+has_one code keys = list_any (λ key. has keys key && has code key) (range_with_len 0 key_count)
 
 -- the strokes' texts, each after_character a slash
 abbrev pub others_text : List ℕ → List ℕ

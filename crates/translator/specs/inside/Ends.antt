@@ -9,8 +9,8 @@
 --     IsTranslator ..                             what the fields of a translator have in common
 use Rattle.std.specs.Prelude.{ℕ, ◌≡◌, ◌+◌, ◌<◌, ◌≤◌, ◌∷◌, [], ◌⊎◌, Bool, true, false, List, Option, Some, None, ⊤, get_or, is_some, length, map, take}
 use Rattle.std.specs.List.{concat, position_or_len}
-use Rattle.longest_match.specs.declared.pieces.Piece.{Piece}
-use Rattle.longest_match.specs.Pieces.{piece_of, pieces as pieces_of}
+use Rattle.stroke.specs.declared.pieces.Piece.{Piece}
+use Rattle.stroke.specs.Pieces.{piece_of, pieces as pieces_of}
 use Rattle.outline_trie.specs.Tries.{IsNode, child_of, longest_of, node_strokes}
 use Rattle.steno_rules.specs.Nodes.{nodes}
 use Rattle.steno_rules.specs.Outlines.{entry_number}

@@ -1,5 +1,5 @@
 use Rattle.std.proofs.Common.{◌∙◌, ap, ap₂, sym, Some}
-use Rattle.longest_match.specs.Pieces.{pieces}
+use Rattle.stroke.specs.Pieces.{pieces}
 use Rattle.audit_top.proofs.Ends.{wanting}
 use Rattle.audit_top.proofs.Runs.{pays-replay}
 use Rattle.audit_top.proofs.run.replay_pieces.Goals as goal

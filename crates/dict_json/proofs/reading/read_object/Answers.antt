@@ -11,14 +11,14 @@ pub new-requires : goal.new-requires
 new-requires c =
     let k : KeysView = record { entries = c.entries.inside.entries.items; skipped = c.entries.inside.skipped.items; too_long = c.entries.inside.too_long } in
     let made : DictionaryView = record { entries = last_of_each k.entries; skipped = k.skipped; folded = length k.entries - length (last_of_each k.entries) } in
-    let same : record { entries = c.keep_last_of_each.new.entries.items; skipped = k.skipped; folded = c.in-Ok.folded } ≡ made =
-    λ i. record { entries = c.in-Ok.ensures.entries i; skipped = k.skipped; folded = c.in-Ok.ensures.left_out i } in
+    let same : record { entries = c.keep_last_of_each.new.entries.items; skipped = k.skipped; folded = c.in_ok-folded.folded } ≡ made =
+    λ i. record { entries = c.in_ok-folded.ensures.entries i; skipped = k.skipped; folded = c.in_ok-folded.ensures.left_out i } in
     subst IsDictionary (sym same) (made_IsDictionary (members_of (members_view c.args.map.entries)) k c.in_ok-entries.ensures.texts (c.entries.view_is ∙ c.in_ok-entries.ensures.keys) c.in_default.is c.requires.few c.requires.ordered)
 
-pub returns-in-Ok-clause-ok : goal.returns-in-Ok-clause-ok
-returns-in-Ok-clause-ok c =
+pub returns-clause-ok : goal.returns-clause-ok
+returns-clause-ok c =
     let k : KeysView = record { entries = c.entries.inside.entries.items; skipped = c.entries.inside.skipped.items; too_long = c.entries.inside.too_long } in
     let made : DictionaryView = record { entries = last_of_each k.entries; skipped = k.skipped; folded = length k.entries - length (last_of_each k.entries) } in
-    let same : record { entries = c.keep_last_of_each.new.entries.items; skipped = k.skipped; folded = c.in-Ok.folded } ≡ made =
-    λ i. record { entries = c.in-Ok.ensures.entries i; skipped = k.skipped; folded = c.in-Ok.ensures.left_out i } in
+    let same : record { entries = c.keep_last_of_each.new.entries.items; skipped = k.skipped; folded = c.in_ok-folded.folded } ≡ made =
+    λ i. record { entries = c.in_ok-folded.ensures.entries i; skipped = k.skipped; folded = c.in_ok-folded.ensures.left_out i } in
     made_outcome (members_of (members_view c.args.map.entries)) k c.in_ok-entries.ensures.texts (c.entries.view_is ∙ c.in_ok-entries.ensures.keys) c.in_default.is ∙ ap dictionary (sym same ∙ sym c.new.ensures)

@@ -4,7 +4,6 @@ use Rattle.serde_json.specs.View.{members_view, view}
 use Rattle.dict_json.specs.Reading.{members_of}
 use Rattle.dict_json.specs.Outcomes.{not_text}
 use Rattle.dict_json.proofs.MemberLemmas.{walking_more, walking_next, walking_refused, view-String, no_text}
-use Rattle.dict_json.proofs.WalkLemmas.{when_ok}
 use Rattle.dict_json.proofs.reading.walk.Goals as goal
 
 pub add-requires : goal.add-requires
@@ -16,10 +15,9 @@ pub loop-key-preserved : goal.loop-key-preserved
 loop-key-preserved c =
     let next = ap (λ es. members_of (members_view es)) (rest_more (λ x. x) _ _ _ _ c.in-Some.is c.next.ensures.steps) in
     let text = ap (λ v. record { name = string_bytes c.in-Some.key; value = v } ∷ members_of (members_view c.next.new.self)) (ap view c.in-String.is ∙ view-String c.in-String.text) in
-    walking_more _ _ _ (string_bytes c.in-Some.key) (string_bytes c.in-String.text) c.loop-key.keys c.add.new.self (next ∙ text) c.loop-key.invariant (when_ok c.add.result _ c.if-is_err.ensures.value c.add.ensures)
+    walking_more _ _ _ (string_bytes c.in-Some.key) (string_bytes c.in-String.text) c.loop-key.keys c.add.new.self (next ∙ text) c.loop-key.invariant c.in_ok-add-in-String.ensures
 
-pub returns-in_default-value : goal.returns-in_default-value
-returns-in_default-value c =
+pub returns-in_default : goal.returns-in_default
+returns-in_default c =
     let next = ap (λ es. members_of (members_view es)) (rest_more (λ x. x) _ _ _ _ c.in-Some.is c.next.ensures.steps) in
-    let other = c.in_default-value.not-String in
-    record { texts = tt; keys = tt; err = walking_refused _ _ _ _ c.loop-key.keys next c.loop-key.invariant (no_text (string_bytes c.in-Some.key) c.in-Some.value c.in_default-value.not-String) ∙ ap not_text (sym c.new.ensures) }
+    record { texts = tt; keys = tt; err = walking_refused _ _ _ _ c.loop-key.keys next c.loop-key.invariant (no_text (string_bytes c.in-Some.key) c.in-Some.value c.in_default.not-String) ∙ ap not_text (sym c.new.ensures) }

@@ -9,7 +9,7 @@ bounds-word_files-len c =
     let turn = YieldsList-turn (YieldsList-from_vec {s = c.into_iter-dictionary-iterator.result} c.args.dictionaries.items (search rules) (search rules))
     c.loop-dictionary.yielded c.loop-dictionary.dictionary-iterator c.loop-dictionary.yielded_by c.next.result c.next.new.self c.in-Some.dictionary c.in-Some.is c.next.ensures.steps in
     let count = places c.loop-dictionary.yielded c.args.word_files.now c.loop-dictionary.collected c.loop-dictionary.invariant in
-    omega (arith, turn.0, count, c.len-in-loop-dictionary.ensures, c.requires.kinds)
+    omega (arith, turn.0, count, c.len-in-loop-dictionary.ensures, c.requires.each)
 
 pub add-requires : goal.add-requires
 add-requires c =
@@ -18,7 +18,7 @@ add-requires c =
     let count = places c.loop-dictionary.yielded c.args.word_files.now c.loop-dictionary.collected c.loop-dictionary.invariant in
     record {
       few = omega (arith, turn.0, count, c.requires.few);
-      few_keys = omega (arith, turn.0, c.requires.few, c.loop-dictionary.invariant.few_keys);
+      few_keys = omega (arith, count, c.loop-dictionary.invariant.few_keys);
     }
 
 pub loop-dictionary-preserved : goal.loop-dictionary-preserved
@@ -32,6 +32,6 @@ loop-dictionary-preserved c =
       skipped = adds.skipped;
       skipped_total = adds.skipped_total;
       folded_total = adds.folded_total;
-      are_short = adds.are_short;
+      are_outlines = adds.are_outlines;
       few_more = adds.few_more;
     }))

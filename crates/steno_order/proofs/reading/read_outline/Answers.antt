@@ -1,5 +1,7 @@
-use Rattle.std.proofs.Common.{◌+◌, subst, sym, ap, ◌∙◌}
+use Rattle.std.proofs.Common.{◌+◌, ◌≤◌, subst, sym, ap, ◌∙◌}
 use Rattle.std.specs.Prelude.{Some, option_map}
+use Rattle.steno_rules.specs.Outlines.{IsOutline, most_strokes}
+use Rattle.steno_order.proofs.ListLaws.{spelt_strokes-IsOutline}
 use Rattle.steno_order.proofs.StrokesRead.{IsHeld, all_read, none_next, one_held, less_left}
 use Rattle.steno_order.proofs.reading.read_outline.Goals as goal
 
@@ -21,7 +23,13 @@ returns-then-parts-gt-MAX-clause-err c =
     let h = subst (λ o. IsHeld c.args.text.now c.loop-rest.strokes c.loop-rest.parts (option_map (λ rest. rest.now) o)) c.in_default.is c.loop-rest.invariant in
     (h.strokes, all_read c.args.text.now h.strokes h.read, h.count, c.if-parts-gt-MAX.true)
 
-pub returns-in-Ok-clause-ok : goal.returns-in-Ok-clause-ok
-returns-in-Ok-clause-ok c =
+pub returns-clause-ok : goal.returns-clause-ok
+returns-clause-ok c =
     let h = subst (λ o. IsHeld c.args.text.now c.loop-rest.strokes c.loop-rest.parts (option_map (λ rest. rest.now) o)) c.in_default.is c.loop-rest.invariant in
-    all_read c.args.text.now h.strokes h.read ∙ ap (λ l. Some l) (sym (h.held c.if-parts-gt-MAX.false) ∙ sym c.in-Ok.ensures)
+    all_read c.args.text.now h.strokes h.read ∙ ap (λ l. Some l) (sym (h.held c.if-parts-gt-MAX.false) ∙ sym c.in_ok-from_strokes.ensures)
+
+pub returns-clause-is_outline : goal.returns-clause-is_outline
+returns-clause-is_outline c =
+    let h = subst (λ o. IsHeld c.args.text.now c.loop-rest.strokes c.loop-rest.parts (option_map (λ rest. rest.now) o)) c.in_default.is c.loop-rest.invariant in
+    let outline = spelt_strokes-IsOutline c.args.text.now h.strokes (all_read c.args.text.now h.strokes h.read) (subst (λ n. n ≤ most_strokes) (sym h.count) c.if-parts-gt-MAX.false) in
+    subst IsOutline (sym (h.held c.if-parts-gt-MAX.false) ∙ sym c.in_ok-from_strokes.ensures) outline

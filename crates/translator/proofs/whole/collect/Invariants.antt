@@ -1,5 +1,5 @@
 use Rattle.std.proofs.Common.{◌≡◌, ◌≤◌, length, take, vec_capacity}
-use Rattle.longest_match.specs.Pieces.{pieces as pieces_of}
+use Rattle.stroke.specs.Pieces.{pieces as pieces_of}
 use Rattle.translator.proofs.whole.collect.Given as goal
 
 abbrev pub invariant-loop-stroke : goal.invariant-loop-stroke

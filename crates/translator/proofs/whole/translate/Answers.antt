@@ -1,7 +1,7 @@
 use Rattle.std.proofs.Common.{◌≡◌, ◌<◌, length, sum_by, All, IfSome, sym, subst}
 use Rattle.std.proofs.lemmas.Result.{IfOk-weaker}
-use Rattle.longest_match.proofs.PieceFacts.{pieces-lengths, pieces-numbers}
-use Rattle.longest_match.specs.declared.pieces.Piece.{Piece}
+use Rattle.stroke.proofs.PieceFacts.{pieces-lengths, pieces-numbers}
+use Rattle.stroke.specs.declared.pieces.Piece.{Piece}
 use Rattle.translator.proofs.whole.translate.Goals as goal
 
 pub returns-clause-lengths : goal.returns-clause-lengths

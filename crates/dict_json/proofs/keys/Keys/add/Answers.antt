@@ -6,8 +6,8 @@ use Rattle.dict_json.proofs.WalkLemmas.{on_ok, adds_entry, adds_skipped, adds_to
 use Rattle.dict_json.proofs.keys.Keys.add.Goals as goal
 
 pub returns-in-Ok : goal.returns-in-Ok
-returns-in-Ok c = on_ok c.add_entry.result _ _ c.add_entry.ensures.entry (λ same pairs is.
-    same ∙ adds_entry pairs c.args.self.now (string_bytes c.args.key) (string_bytes c.args.text) is c.in-Ok.outline (ap spelt_strokes (sym c.as_str.ensures.value) ∙ c.in-Ok.ensures.ok) c.add_entry.ensures.short)
+returns-in-Ok c = on_ok c.add_entry.result _ _ c.add_entry.ensures (λ same pairs is.
+    same ∙ adds_entry pairs c.args.self.now (string_bytes c.args.key) (string_bytes c.args.text) is c.in-Ok.outline (ap spelt_strokes (sym c.as_str.ensures.value) ∙ c.in-Ok.ensures.ok) c.in-Ok.ensures.is_outline.at_most)
 
 pub returns-in-Err-Unreadable : goal.returns-in-Err-Unreadable
 returns-in-Err-Unreadable c =

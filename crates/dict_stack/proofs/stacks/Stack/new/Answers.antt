@@ -21,8 +21,8 @@ invariant_of-result c =
     let collected : IsCollected c.args.dictionaries.items c.args.word_files.items c.in_ok-candidates.field-0 =
     subst (λ l. IsCollected c.args.dictionaries.items l c.in_ok-candidates.field-0) c.deref.ensures.value c.in_ok-candidates.ensures in
     let few : length c.in_ok-outlines.field-0.outlines.items ≤ most_entries = subst (λ l. length l ≤ most_entries) (sym c.in_ok-outlines.ensures.merged.outlines_are) c.in_ok-outlines.ensures.few in (
-      view_stands c.args.dictionaries.items c.args.word_files.items c.in_ok-candidates.field-0 c.in_ok-outlines.field-0 c.requires.kinds collected c.in_ok-outlines.ensures.merged c.requires.few few,
-      total_is c.args.dictionaries.items c.args.word_files.items c.in_ok-candidates.field-0 c.in_ok-outlines.field-0 c.requires.kinds collected c.in_ok-outlines.ensures.merged,
+      view_stands c.args.dictionaries.items c.args.word_files.items c.in_ok-candidates.field-0 c.in_ok-outlines.field-0 c.requires.each collected c.in_ok-outlines.ensures.merged c.requires.few few,
+      total_is c.args.dictionaries.items c.args.word_files.items c.in_ok-candidates.field-0 c.in_ok-outlines.field-0 c.requires.each collected c.in_ok-outlines.ensures.merged,
       c.in_ok-strokes.ensures ∙ ap strokes_of_all c.deref-2.ensures.value,
     )
 
@@ -30,7 +30,7 @@ pub returns-clause-stack : goal.returns-clause-stack
 returns-clause-stack c =
     let collected : IsCollected c.args.dictionaries.items c.args.word_files.items c.in_ok-candidates.field-0 =
     subst (λ l. IsCollected c.args.dictionaries.items l c.in_ok-candidates.field-0) c.deref.ensures.value c.in_ok-candidates.ensures in
-    view_is c.args.dictionaries.items c.args.word_files.items c.in_ok-candidates.field-0 c.in_ok-outlines.field-0 c.requires.kinds collected c.in_ok-outlines.ensures.merged
+    view_is c.args.dictionaries.items c.args.word_files.items c.in_ok-candidates.field-0 c.in_ok-outlines.field-0 c.requires.each collected c.in_ok-outlines.ensures.merged
 
 pub returns-clause-few_entries : goal.returns-clause-few_entries
 returns-clause-few_entries c =

@@ -1,7 +1,7 @@
 use Rattle.std.proofs.Common.{◌-◌, ◌++◌, ◌∷◌, [], length, drop, ap, subst, ◌∙◌, arith, reverse}
 use Rattle.std.proofs.lemmas.Grind.{reverse_onto}
 use Rattle.std.proofs.lemmas.List.{length-map}
-use Rattle.longest_match.specs.Pieces.{piece_of, pieces as pieces_of}
+use Rattle.stroke.specs.Pieces.{piece_of, pieces as pieces_of}
 use Rattle.outline_trie.specs.Tries.{longest_of}
 use Rattle.translator.specs.inside.Ends.{lost_ends}
 use Rattle.translator.specs.Translations.{Translation, IsMerge}
