@@ -1,0 +1,3 @@
+pub mod NodeStates
+pub mod Moving
+pub mod inside

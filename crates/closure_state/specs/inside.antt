@@ -1,0 +1,9 @@
+pub mod Chains
+pub mod Steps
+pub mod Left
+pub mod Rows
+pub mod Waits
+pub mod Strokes
+pub mod Invariants
+pub mod NodeFlags
+pub mod Marks
