@@ -1,0 +1,38 @@
+-- The stroke into a state.
+use Rattle.std.proofs.Common.{◌≡◌, ℕ, ◌+◌, ◌-◌, ◌<◌, ◌≤◌, List, [], ◌∷◌, ◌++◌, length, take, drop, refl, sym, ap, subst, ◌∙◌, arith, ◌⊎◌, inl, inr, Option, Some, None, drop_at}
+use Rattle.std.specs.Prelude.{MatchOption}
+use Rattle.std.proofs.lemmas.List.{length_push, length-take}
+use Rattle.steno_rules.specs.States as states
+use Rattle.steno_rules.specs.StateNumbers.{longer, state_of_number}
+use Rattle.closure_laws.specs.Examples.{last_stroke}
+use Rattle.closure_laws.proofs.StateNumberLemmas.{longer_cases}
+use Rattle.outline_trie.specs.Tries.{node_strokes, IsLast}
+use Rattle.outline_trie.proofs.LookLemmas.{root_is}
+use Rattle.closure_state.specs.declared.state.State.{State}
+use Rattle.closure_state.specs.NodeStates.{state_at}
+use Rattle.state_numbering.specs.ByNumber.{IsStateOf, IsStrokeInto, HasNoStroke}
+
+-- the last stroke of a list
+last_of : (x front : List ℕ) (code : ℕ) → x ≡ front ++ code ∷ [] → drop (length x - 1) x ≡ code ∷ []
+last_of x front code is = ap (λ y. drop (length y - 1) y) is ∙ drop_at front (code ∷ []) (length (front ++ code ∷ []) - 1) (omega (arith, length_push front code))
+
+-- The answer is that of the node of the state's longer list.
+pub stroke_of_node : (entries words : List (List ℕ)) (number node : ℕ) (s : State) (found : Option ℕ) → IsStateOf entries words number s → longer (state_at entries s) ≡ node_strokes entries node → MatchOption found (node ≡ 0) (IsLast entries node) →
+    MatchOption found (HasNoStroke entries words number) (IsStrokeInto entries words number)
+stroke_of_node entries words number node s None is long last = λ t at.
+    let same : Some (state_at entries s) ≡ Some t = sym is.number_is ∙ at in
+    let same' : state_at entries s ≡ t = cc in
+    ap longer (sym same') ∙ long ∙ ap (node_strokes entries) last ∙ root_is entries
+stroke_of_node entries words number node s (Some code) is long last = record {
+  state = state_at entries s;
+  number_is = is.number_is;
+  stroke = ap (λ x. drop (length x - 1) x) long ∙ last_of (node_strokes entries node) _ code last;
+}
+
+-- The longer list is the window's where the open word has no more strokes,
+pub longer_window : (entries : List (List ℕ)) (s : State) (wide deep : ℕ) → wide ≡ length (node_strokes entries s.window) → deep ≡ length (node_strokes entries s.word) → deep ≤ wide → longer (state_at entries s) ≡ node_strokes entries s.window
+longer_window entries s wide deep u v short = elim (longer_cases (state_at entries s)) [ inl h ↦ h.1 | inr h ↦ absurd (omega (arith, h.0, u, v, short)) ]
+
+-- and else the open word's.
+pub longer_word : (entries : List (List ℕ)) (s : State) (wide deep : ℕ) → wide ≡ length (node_strokes entries s.window) → deep ≡ length (node_strokes entries s.word) → wide < deep → longer (state_at entries s) ≡ node_strokes entries s.word
+longer_word entries s wide deep u v short = elim (longer_cases (state_at entries s)) [ inl h ↦ absurd (omega (arith, h.0, u, v, short)) | inr h ↦ h.1 ]

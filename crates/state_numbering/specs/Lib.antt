@@ -1,0 +1,5 @@
+pub mod Numberings
+pub mod Causes
+pub mod ByNumber
+pub mod Cursors
+pub mod inside

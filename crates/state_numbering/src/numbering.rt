@@ -1,0 +1,191 @@
+//! From states to numbers and back.
+ghost use Rattle.std.specs.Prelude.{◌≡◌, ◌<◌, ◌≤◌, ◌^◌, IfErr, IfOk, IfSome, MatchOption, None, length, ℕ};
+ghost use Rattle.steno_rules.specs.ClosureGraphs.{numbers_by};
+ghost use Rattle.steno_rules.specs.Outlines.{AreWords};
+ghost use Rattle.steno_rules.specs.States.{kept_targets};
+ghost use Rattle.steno_rules.specs.StateNumbers.{number_count, state_number, state_of_number};
+ghost use Rattle.steno_rules.specs.WordSets.{IsWordSet, words_in};
+ghost use Rattle.outline_trie.specs.Tries.{IsNode, node_strokes, suffix_of};
+ghost use Rattle.closure_state.specs.NodeStates.{IsNodeState, state_at};
+ghost use Rattle.state_numbering.specs.ByNumber.{HasNoStroke, IsHitOf, IsStateOf, IsStrokeInto};
+ghost use Rattle.state_numbering.specs.Causes.{IsNumberCause, most_states};
+ghost use Rattle.state_numbering.specs.Cursors.{OwnsMoves, numbers_left};
+
+use crate::fault::NumberFault;
+use crate::offset::{Lengths, lengths_at, offset_of};
+use crate::parts::Parts;
+use closure_state::{Hit, Moves, State, WordSet, hit};
+use match_window::Windows;
+use outline_trie::Trie;
+use std::alloc::Global;
+use std::marker::Model;
+use stroke::Stroke;
+
+/// The states over the entries of a trie and some words among them, by their numbers. It borrows the trie, its windows and
+/// the words.
+#[derive(Drop)]
+pub struct Numbering<'a> {
+    trie: &'a Trie,
+    windows: &'a Windows<'a>,
+    words: &'a WordSet,
+    parts: Parts<'a>,
+}
+
+impl<'a> Model for Numbering<'a> {
+    ghost use Rattle.steno_rules.specs.WordSets.{words_in};
+    ghost use Rattle.state_numbering.specs.Numberings.{NumberingView};
+    ghost use Rattle.state_numbering.specs.inside.Invariants.{IsNumbering};
+
+    ghost Value = { NumberingView };
+
+    ghost view = { λ n. record { entries = n.trie.now; words = words_in n.trie.now n.words.now } };
+
+    ghost invariant = { λ n. IsNumbering n.windows.now n.parts n.trie.now n.words.now };
+}
+
+impl<'a> Numbering<'a> {
+    /// Numbers the states, in time linear in the nodes. `TooManyStates` exactly where there are more than 33,554,432
+    /// numbers; they are counted before any memory is asked for.
+    pub fn new(
+        alloc: Global,
+        trie: &'a Trie,
+        windows: &'a Windows<'a>,
+        words: &'a WordSet,
+    ) -> Result<Numbering<'a>, NumberFault>
+        requires windows { windows.now ≡ trie.now }
+        requires words { IsWordSet trie.now words.now }
+        ensures numbered {
+            IfOk result (λ n. n ≡ record { entries = trie.now; words = words_in trie.now words.now })
+        }
+        ensures within { IfOk result (λ n. number_count trie.now ≤ most_states) }
+        ensures cause { IfErr result (IsNumberCause (number_count trie.now)) }
+    {
+        match Parts::new(alloc, trie) {
+            Ok(parts) => Ok(Numbering {
+                trie,
+                windows,
+                words,
+                parts,
+            }),
+            Err(fault) => Err(fault),
+        }
+    }
+
+    /// How many numbers there are, at least 1.
+    pub fn count(&self) -> u32
+        ensures count { result ≡ number_count self.now.entries }
+        ensures some { 0 < result }
+        ensures most { result ≤ most_states }
+        ensures words { AreWords self.now.entries self.now.words }
+    {
+        self.parts.count()
+    }
+
+    /// The number of a state, found without a look-up.
+    pub fn number(&self, state: State) -> u32
+        requires { IsNodeState self.now.entries self.now.words state }
+        ensures number { result ≡ state_number self.now.entries (state_at self.now.entries state) }
+        ensures below { result < number_count self.now.entries }
+    {
+        let window = self.parts.part(state.window);
+        let word = self.parts.part(state.word);
+        let longer = if word.depth <= window.depth {
+            window
+        } else {
+            word
+        };
+        longer.start
+            + offset_of(Lengths {
+                window: window.depth,
+                word: word.depth,
+                mark: state.mark,
+            })
+    }
+
+    /// The state of a number, None exactly where no state has it. A block of the index, a short scan, and one look-up a
+    /// stroke of the shorter list.
+    pub fn state(&self, number: u32) -> Option<State>
+        ensures {
+            MatchOption result (state_of_number self.now.entries self.now.words number ≡ None)
+                (IsStateOf self.now.entries self.now.words number)
+        }
+    {
+        if number >= self.parts.count() {
+            return None;
+        }
+        let node = self.parts.node_of(number);
+        let part = self.parts.part(node);
+        let lengths = lengths_at(part.depth, number - part.start);
+        let window = self.end_of(node, part.depth, lengths.window)?;
+        let word = self.end_of(node, part.depth, lengths.word)?;
+        if self.words.opens(word) {
+            Some(State {
+                window,
+                word,
+                mark: lengths.mark,
+            })
+        } else {
+            None
+        }
+    }
+
+    /// The node of so many last strokes of a node, if it is one.
+    fn end_of(&self, node: u32, depth: u32, len: u32) -> Option<u32>
+        requires node { IsNode self.now.entries node }
+        requires depth { depth ≡ length (node_strokes self.now.entries node) }
+        ensures { result ≡ suffix_of self.now.entries node len }
+    {
+        if len == depth {
+            Some(node)
+        } else if len == 1 {
+            self.windows.alone(node)
+        } else {
+            self.trie.suffix(node, len)
+        }
+    }
+
+    /// The kept moves of the state of a number, None where none has it.
+    pub(crate) fn moves(&self, number: u32) -> Option<Moves<'a>>
+        ensures left {
+            numbers_left self.now result
+                ≡ numbers_by self.now.entries (kept_targets self.now.entries self.now.words)
+                    (state_of_number self.now.entries self.now.words number)
+        }
+        ensures owned { OwnsMoves self.now result }
+        ensures few { length (numbers_left self.now result) < 2 ^ 32 }
+    {
+        match self.state(number) {
+            Some(state) => Some(Moves::kept(self.trie, self.windows, self.words, &state)),
+            None => None,
+        }
+    }
+
+    /// The last stroke of the longer of the two lists of a number's state, u where they are of equal length. None exactly
+    /// where no state has the number or both lists are empty.
+    pub fn stroke_into(&self, number: u32) -> Option<Stroke>
+        ensures {
+            MatchOption result (HasNoStroke self.now.entries self.now.words number)
+                (IsStrokeInto self.now.entries self.now.words number)
+        }
+    {
+        let state = self.state(number)?;
+        if self.trie.depth(state.word) <= self.trie.depth(state.window) {
+            self.trie.last(state.window)
+        } else {
+            self.trie.last(state.word)
+        }
+    }
+
+    /// The hit that the state of a number is, None exactly where no state has the number or its state is no hit.
+    pub fn hit_of(&self, number: u32) -> Option<Hit>
+        ensures hit {
+            MatchOption result
+                ((e place : ℕ) → IsHitOf self.now.entries self.now.words number e place → ⊥)
+                (λ h. IsHitOf self.now.entries self.now.words number h.entry h.place)
+        }
+        ensures entry { IfSome result (λ h. h.entry < length self.now.entries) }
+    {
+        let state = self.state(number)?;
+        hit(self.trie, self.windows, &state)
+    }
+}
