@@ -1,6 +1,9 @@
-pub mod Ends
-pub mod FirstFaults
-pub mod LoadingEach
 pub mod Values
-pub mod Runs
+pub mod CommandLaw
 pub mod Written
+pub mod Causes
+pub mod Stops
+pub mod Stacks
+pub mod Ends
+pub mod Reports
+pub mod Unique

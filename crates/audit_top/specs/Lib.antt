@@ -1,6 +1,6 @@
 pub mod Commands
-pub mod DictFiles
-pub mod Dues
-pub mod Owing
-pub mod Loading
-pub mod Codes
+pub mod Statuses
+pub mod Expected
+pub mod Runs
+pub mod Programs
+pub mod inside

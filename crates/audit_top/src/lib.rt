@@ -1,20 +1,27 @@
-//! The commands of the program, from the words of the command line to the bytes of the output.
+//! The commands of the program, from the arguments of the command line to the bytes of the output.
 //!
-//! [`run_plain`] does all that the program does. Its contract is what a user is promised: what a run owes, a status and a text, is one
-//! function of the words and of the files (`specs/Dues.antt`), and the run pays it, or the fault of a file, of the output or want of
-//! memory stands in its place.
+//! [`run_plain`] does all that the program does. Its contract is what a user is promised: what is expected of a run is a relation
+//! on its arguments and its dictionaries (`specs/Expected.antt`), and a run ends as expected, or with the line of a file that
+//! failed, or is cut off where the output failed or memory ran out (`specs/Runs.antt`).
+//!
+//! Each command is a function of its own module that returns a status or a refusal. One place writes the line of a refusal.
 #![tactic(auto)]
 
-mod endings;
-mod loading;
+mod commands;
+mod generate;
+mod laws;
 mod numbers;
-mod run;
+mod program;
+mod refusals;
+mod replay;
 mod status;
-mod words;
+mod top;
 
-pub use run::run_plain;
+pub use commands::{Command, MAX_GENERATED, read_words};
+pub use laws::{command_arguments, expected_results};
+pub use program::run_program;
 pub use status::Status;
-pub use words::{Command, read_words};
+pub use top::run_plain;
 
 #[cfg(test)]
 mod tests;

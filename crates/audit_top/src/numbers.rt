@@ -37,12 +37,12 @@ fn value(text: &[u8], most: u64) -> Option<u64>
     Some(value)
 }
 
-/// The number that a word is, if it is one of at most `most`. It takes no memory.
-pub(crate) fn read_number(word: &str, most: u64) -> Option<u64>
-    ensures { result ≡ decimal_value most word.now }
+/// The number that an argument is, if it is one of at most `most`. It takes no memory.
+pub(crate) fn read_number(arg: &str, most: u64) -> Option<u64>
+    ensures { result ≡ decimal_value most arg.now }
 {
-    if has_form(word.as_bytes()) {
-        value(word.as_bytes(), most)
+    if has_form(arg.as_bytes()) {
+        value(arg.as_bytes(), most)
     } else {
         None
     }

@@ -1,7 +1,7 @@
 //! How a run ends.
 
 ghost use Rattle.std.specs.Prelude.{◌≡◌};
-ghost use Rattle.audit_top.specs.Codes.{exit_code};
+ghost use Rattle.audit_top.specs.Statuses.{exit_code};
 
 /// How a run ended.
 #[derive(Clone, Copy, Debug, PartialEq, Eq)]
@@ -10,7 +10,7 @@ pub enum Status {
     Clean,
     /// An audit found conflicts.
     Conflicts,
-    /// The words are no command.
+    /// The arguments are not a command.
     Words,
     /// Reading or writing a file failed.
     File,
@@ -20,7 +20,7 @@ pub enum Status {
     Limit,
     /// The output failed.
     Output,
-    /// There was not enough memory.
+    /// Memory ran out.
     Memory,
     /// A certificate is not valid.
     Rejected,

@@ -1,37 +1,39 @@
 //! Runs of whole commands over files in memory.
 //!
-//! The tables have a run a line: its words, its files, its status and its output, with `|` between them. Words stand with a space between
-//! two, files as `name=text` and lines of the output with `;` between two.
+//! The tables have a run a line: its arguments, its files, its status and its output, with `|` between them. Arguments stand with a
+//! space between two, files as `name=text` and lines of the output with `;` between two.
 
 ghost use Rattle.std.specs.Prelude.{◌<◌, ◌^◌, All, IsTrue, string_len};
 
-use crate::{Status, run_plain};
+use crate::{Status, run_plain, run_program};
 use outside::{Files, MemFiles, MemSink, PlainFiles, PlainSink, Sink};
 use std::alloc::{AllocError, Global};
+use std::io;
+use std::io::ErrorKind;
 use std::process::Abort;
 use steno_order::write_stroke;
 use stroke::Stroke;
 
-/// The words of a command line.
-fn words_of(alloc: Global, line: &str) -> Result<Vec<String>, AllocError> {
-    let mut words = Vec::new(alloc);
+/// The arguments of a command line.
+fn arguments_of(alloc: Global, line: &str) -> Result<Vec<String>, AllocError> {
+    let mut args = Vec::new(alloc);
     if line.is_empty() {
-        return Ok(words);
+        return Ok(args);
     }
-    for word in line.split(' ') {
-        words.push(String::from_str(alloc, word)?)?;
+    for arg in line.split(' ') {
+        args.push(String::from_str(alloc, arg)?)?;
     }
-    Ok(words)
+    Ok(args)
 }
 
-/// Whether each word has fewer than 2^32 bytes.
-fn are_short(words: &[String]) -> bool
-    ensures { IsTrue result → All (λ word. string_len word < 2 ^ 32) words.now }
+/// Whether each argument has fewer than 2^32 bytes.
+fn are_short(args: &[String]) -> bool
+    ensures { IsTrue result → All (λ arg. string_len arg < 2 ^ 32) args.now }
 {
-    words.iter().all(|word| word.len() < 1 << 32)
+    args.iter().all(|arg| arg.len() < 1 << 32)
 }
 
-/// Runs the words.
+/// Runs the arguments.
 fn run(
     rt: &impl Abort,
     alloc: Global,
@@ -39,9 +41,9 @@ fn run(
     files: &mut impl Files,
     out: &mut impl Sink,
 ) -> Result<Status, AllocError> {
-    let words = words_of(alloc, line)?;
-    assert!(rt; are_short(&words));
-    Ok(run_plain(alloc, &words, files, out))
+    let args = arguments_of(alloc, line)?;
+    assert!(rt; are_short(&args));
+    Ok(run_plain(alloc, &args, files, out))
 }
 
 /// The files of these names and texts.
@@ -112,6 +114,7 @@ replay STS d|d={"-S": "a", "S-S": "b", "STS": "c", "ST-S": "d"}|0|ST-S "c"
 replay 12/TP-PL/-G d|d={"TP-PL": "{.}", "-G": "{^ing}", "12": "12", "*": "undo"}|0|12 "12";TP-PL "{.}";-G "{^ing}"
 replay S d|d={"UE": "x", "-": "y", "": "z", "S//T": "q", "S": "a\"\\\n\u0000"}|0|S "a\"\\\n\x00"
 generate 7 2||0|{;"TPAFRPB/SKWRAOBG/KAER": "w0",;"SAOPL/AOBG": "w1";}
+replay S d d d d d d d d d d d d d d d d|d={"S": "s"}|0|S "s"
 generate 7 0||0|{}
 generate 18446744073709551615 0||0|{}"#;
 
@@ -142,6 +145,10 @@ replay KAT d|d={"b": [], "a": null}|4|refused file 1 not text "a"
 replay S match:d|d=7|4|refused file 1 not object
 replay S d d d d d d d d d d d d d d d d d|d={}|5|limit dictionaries 17"#;
 
+const HOSTILE: &str = r#"replay KAT d.json|d.json={"KAT": "cat"} x|4|refused file 1 not json
+replay KAT d.json|d.json={"KAT": {"a": 1}}|4|refused file 1 not text "KAT"
+replay KAT d.json|d.json={"TEL": 1, "KAT": 2}|4|refused file 1 not text "KAT""#;
+
 #[test]
 fn replays(rt: HostRuntime) -> Result<(), AllocError> {
     check_rows(&rt, rt.alloc(), REPLAYS)
@@ -150,6 +157,47 @@ fn replays(rt: HostRuntime) -> Result<(), AllocError> {
 #[test]
 fn refusals(rt: HostRuntime) -> Result<(), AllocError> {
     check_rows(&rt, rt.alloc(), REFUSALS)
+}
+
+#[test]
+fn hostile_files(rt: HostRuntime) -> Result<(), AllocError> {
+    check_rows(&rt, rt.alloc(), HOSTILE)
+}
+
+/// Runs a replay over a file of these bytes, whose output is one line.
+fn check_bytes(
+    rt: &impl Abort,
+    alloc: Global,
+    bytes: &[u8],
+    status: Status,
+    line: &[u8],
+) -> Result<(), AllocError> {
+    let mut files = MemFiles::new(alloc);
+    files.add("d.json", bytes)?;
+    let mut out = MemSink::new(alloc);
+    let found = run(rt, alloc, "replay KAT d.json", &mut files, &mut out)?;
+    assert_eq!(rt; found, status);
+    assert!(rt; out.text() == line);
+    Ok(())
+}
+
+#[test]
+fn a_byte_that_is_no_text(rt: HostRuntime) -> Result<(), AllocError> {
+    let line = b"refused file 1 not json\n";
+    check_bytes(&rt, rt.alloc(), &[0xFF], Status::Refused, line)
+}
+
+#[test]
+fn two_hundred_brackets(rt: HostRuntime) -> Result<(), AllocError> {
+    let line = b"refused file 1 not json\n";
+    check_bytes(&rt, rt.alloc(), &[b'['; 200], Status::Refused, line)
+}
+
+#[test]
+fn one_byte_over_the_limit(rt: HostRuntime) -> Result<(), AllocError> {
+    let bytes = vec![in rt.alloc(); b' '; 67_108_865]?;
+    let line = b"limit bytes file 1\n";
+    check_bytes(&rt, rt.alloc(), &bytes, Status::Limit, line)
 }
 
 /// One number in a list.
@@ -187,15 +235,36 @@ fn each_call_of_the_files_fails(rt: HostRuntime) -> Result<(), AllocError> {
     Ok(())
 }
 
+/// The first call of the files would fail, so this shows that there is none.
 #[test]
-fn the_output_fails(rt: HostRuntime) -> Result<(), AllocError> {
+fn seventeen_dictionaries_open_no_file(rt: HostRuntime) -> Result<(), AllocError> {
     let mut files = files_of(rt.alloc(), THREE)?;
+    files.fail_at(only(rt.alloc(), 0)?);
     let mut out = MemSink::new(rt.alloc());
-    out.fail_at(only(rt.alloc(), 0)?);
-    let found = run(&rt, rt.alloc(), "replay S d", &mut files, &mut out)?;
+    let line = "replay S d d d d d d d d d d d d d d d d d";
+    let found = run(&rt, rt.alloc(), line, &mut files, &mut out)?;
+    assert_eq!(rt; found, Status::Limit);
+    assert!(rt; out.text() == b"limit dictionaries 17\n".as_slice());
+    Ok(())
+}
+
+/// Runs a line over an output that fails at once.
+fn check_failing_output(rt: &impl Abort, alloc: Global, line: &str) -> Result<(), AllocError> {
+    let mut files = files_of(alloc, THREE)?;
+    let mut out = MemSink::new(alloc);
+    out.fail_at(only(alloc, 0)?);
+    let found = run(rt, alloc, line, &mut files, &mut out)?;
     assert_eq!(rt; found, Status::Output);
     assert!(rt; out.text().is_empty());
     Ok(())
+}
+
+#[test]
+fn the_output_fails(rt: HostRuntime) -> Result<(), AllocError> {
+    check_failing_output(&rt, rt.alloc(), "replay S d")?;
+    check_failing_output(&rt, rt.alloc(), "generate 7 2")?;
+    check_failing_output(&rt, rt.alloc(), "replay S")?;
+    check_failing_output(&rt, rt.alloc(), "replay S e")
 }
 
 #[test]
@@ -231,6 +300,87 @@ fn the_longest_outline(rt: HostRuntime) -> Result<(), AllocError> {
         "replay S d|d={{\"{longer}\": \"x\"}}|5|limit outline file 1 \"{longer}\" 65"
     )?;
     check_row(&rt, alloc, &over)
+}
+
+/// A value that is no text is refused before a key that is too long, whatever their order.
+#[test]
+fn a_bad_value_beside_a_long_key(rt: HostRuntime) -> Result<(), AllocError> {
+    let alloc = rt.alloc();
+    let longer = repeated(alloc, 65)?;
+    let row = format!(in alloc;
+        "replay KAT d.json|d.json={{\"KAT\": 1, \"{longer}\": \"x\"}}|4|refused file 1 not text \"KAT\""
+    )?;
+    check_row(&rt, alloc, &row)
+}
+
+/// A key with an unreadable part is skipped, however many parts it has.
+#[test]
+fn an_unreadable_long_key(rt: HostRuntime) -> Result<(), AllocError> {
+    let alloc = rt.alloc();
+    let longest = repeated(alloc, 64)?;
+    let row = format!(in alloc;
+        "replay KAT d.json|d.json={{\"{longest}/UE\": \"x\"}}|0|KAT untranslated"
+    )?;
+    check_row(&rt, alloc, &row)
+}
+
+/// Runs the program with these arguments after its name.
+fn run_arguments(
+    rt: &impl Abort,
+    alloc: Global,
+    line: &str,
+    code: u8,
+    text: &[u8],
+) -> Result<(), AllocError> {
+    let args = arguments_of(alloc, line)?;
+    let mut files = files_of(alloc, THREE)?;
+    let mut out = MemSink::new(alloc);
+    let found = run_program(alloc, Ok(args.into_iter()), &mut files, &mut out);
+    assert_eq!(rt; found, code);
+    assert!(rt; out.text() == text);
+    Ok(())
+}
+
+#[test]
+fn the_program_runs_what_follows_its_name(rt: HostRuntime) -> Result<(), AllocError> {
+    run_arguments(
+        &rt,
+        rt.alloc(),
+        "audit_cli replay KAT a b",
+        0,
+        b"KAT \"cat\"\n",
+    )?;
+    run_arguments(
+        &rt,
+        rt.alloc(),
+        "audit_cli replay KAT e",
+        3,
+        b"failed file 1\n",
+    )?;
+    run_arguments(&rt, rt.alloc(), "replay KAT a", 2, b"refused words\n")?;
+    run_arguments(&rt, rt.alloc(), "", 2, b"refused words\n")
+}
+
+/// Runs the program where the system gives an error for its arguments.
+fn run_error(rt: &impl Abort, alloc: Global, kind: ErrorKind, code: u8, text: &[u8]) {
+    let mut files = MemFiles::new(alloc);
+    let mut out = MemSink::new(alloc);
+    let found = run_program(alloc, Err(io::Error::from(kind)), &mut files, &mut out);
+    assert_eq!(rt; found, code);
+    assert!(rt; out.text() == text);
+}
+
+#[test]
+fn the_system_gives_no_arguments(rt: HostRuntime) -> Result<(), AllocError> {
+    run_error(
+        &rt,
+        rt.alloc(),
+        ErrorKind::InvalidData,
+        2,
+        b"refused words\n",
+    );
+    run_error(&rt, rt.alloc(), ErrorKind::OutOfMemory, 7, b"memory\n");
+    Ok(())
 }
 
 /// A row with a dictionary of the strokes with the codes 1 to `count`.

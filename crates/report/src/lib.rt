@@ -10,7 +10,7 @@ mod putting;
 mod quoting;
 mod replays;
 
-pub use fault_lines::write_fault;
+pub use fault_lines::{write_fault, write_memory};
 pub use faults::{FaultLine, Why};
 pub use putting::ReportFault;
 pub use replays::write_replay;

@@ -1,0 +1,75 @@
+-- What a run is expected to produce: the status with which it ends, the text that it adds to the output, and the file that it writes.
+--     IsExpected inputs command result     this is expected of a run of the command on these inputs
+--     OverStack limit Follows              the refusals of dictionaries in their order, and what follows where there is none
+-- A new command adds its line to `IsExpected`, and what it promises as a function or a record beside `IsReplay`.
+use Rattle.std.specs.Prelude.{ℕ, ◌≡◌, List, [], length, Option, Some, None, unwrap_or}
+use Rattle.steno_rules.specs.Nodes.{nodes}
+use Rattle.steno_order.specs.Reading.{spelt_strokes}
+use Rattle.dict_json.specs.Generated.{generated_text}
+use Rattle.dict_stack.specs.Stacks.{StackView}
+use Rattle.dict_files.specs.Refusals.{dictionaries_refusal, first_of, if_over, stack_from}
+use Rattle.outline_trie.specs.declared.trie.TheConstants.Trie.{MAX_NODES}
+use Rattle.report.specs.Refusals.{RefusalView, refusal_text, not_words, too_many_nodes}
+use Rattle.report.specs.Replays.{replay_text}
+use Rattle.audit_top.specs.Commands.{CommandView, replay, generate}
+use Rattle.audit_top.specs.Statuses.{refusal_status}
+use Rattle.audit_top.specs.declared.status.Status.{Status}
+use Rattle.audit_top.specs.declared.status.Status.TheVariants.{Clean}
+
+-- a file's name, and the bytes that it has afterwards
+pub record Written : Type 0 where
+  pub name : List ℕ
+  pub bytes : List ℕ
+
+pub record Expected : Type 0 where
+  pub status : Status
+  pub text : List ℕ
+  pub file : Option Written
+
+-- what a run depends on besides its arguments: the bytes of each dictionary, in the order of the arguments
+pub record Inputs : Type 0 where
+  pub dictionaries : List (List ℕ)
+
+-- a text, and no file
+abbrev pub prints : Status → List ℕ → Expected
+prints status text = record { status = status; text = text; file = None }
+
+-- the line of a refusal
+abbrev pub refused : RefusalView → Expected
+refused refusal = prints (refusal_status refusal) (refusal_text refusal)
+
+-- ---- the order of refusals
+
+-- what follows, unless there is a refusal
+abbrev pub UnlessRefused : Option RefusalView → (Expected → Type 0) → Expected → Type 0
+UnlessRefused (Some refusal) Follows result = result ≡ refused refusal
+UnlessRefused None Follows result = Follows result
+
+-- the dictionaries of these arguments are refused: too many of them, the first refused file, too many entries; or their stack is
+-- over a limit of the command; or else this follows over the stack
+abbrev pub OverStack : (StackView → Option RefusalView) → (StackView → Expected → Type 0)
+    → List (List ℕ) → List (List ℕ) → Expected → Type 0
+OverStack limit Follows args contents =
+    let stack = stack_from args contents in
+    UnlessRefused (first_of (dictionaries_refusal args contents) (limit stack)) (Follows stack)
+
+-- the limit of a command that translates
+abbrev pub trie_limit : StackView → Option RefusalView
+trie_limit stack = if_over MAX_NODES too_many_nodes (length (nodes stack.outlines))
+
+-- ---- what follows
+
+abbrev pub IsReplay : List ℕ → StackView → Expected → Type 0
+IsReplay outline stack result =
+    result ≡ prints Clean (replay_text stack (unwrap_or (spelt_strokes outline) []))
+
+abbrev pub IsGenerated : ℕ → ℕ → Expected → Type 0
+IsGenerated start count result = result ≡ prints Clean (generated_text start count)
+
+-- ---- each command
+
+abbrev pub IsExpected : Inputs → Option CommandView → Expected → Type 0
+IsExpected inputs None result = result ≡ refused not_words
+IsExpected inputs (Some (replay outline dicts)) result =
+    OverStack trie_limit (IsReplay outline) dicts inputs.dictionaries result
+IsExpected inputs (Some (generate start count)) result = IsGenerated start count result

@@ -1,0 +1,38 @@
+-- Why a run goes no further, as the parts of a run see it, and how a fault of a call below becomes such a reason.
+use Rattle.report.specs.Refusals.{RefusalView, not_words, too_many_nodes}
+use Rattle.report.specs.declared.putting.ReportFault.{ReportFault}
+use Rattle.report.specs.declared.putting.ReportFault.TheVariants as report
+use Rattle.dict_files.specs.Loading.{load_refusal}
+use Rattle.dict_files.specs.declared.faults.LoadFault.{LoadFault}
+use Rattle.dict_files.specs.declared.faults.LoadFault.TheVariants as load
+use Rattle.outline_trie.specs.declared.trie.TrieFault.{TrieFault}
+use Rattle.outline_trie.specs.declared.trie.TrieFault.TheVariants as trie
+use Rattle.audit_top.specs.declared.refusals.Refusal.{Refusal}
+use Rattle.audit_top.specs.declared.refusals.Refusal.TheVariants as of
+
+-- the output failed, memory ran out, or the input is refused
+pub data Stop : Type 0 where
+  by_output : Stop
+  by_memory : Stop
+  by_refusal : RefusalView → Stop
+
+abbrev pub stop_of : Refusal → Stop
+stop_of of.Arguments = by_refusal not_words
+stop_of (of.Dictionaries fault) = by_refusal (load_refusal fault)
+stop_of (of.Nodes count) = by_refusal (too_many_nodes count)
+stop_of of.Output = by_output
+stop_of of.Memory = by_memory
+
+-- ---- from the faults of calls below
+
+abbrev pub refusal_of_load : LoadFault → Refusal
+refusal_of_load load.Memory = of.Memory
+refusal_of_load fault = of.Dictionaries fault
+
+abbrev pub refusal_of_trie : TrieFault → Refusal
+refusal_of_trie (trie.TooManyNodes count) = of.Nodes count
+refusal_of_trie trie.Memory = of.Memory
+
+abbrev pub refusal_of_report : ReportFault → Refusal
+refusal_of_report report.Failed = of.Output
+refusal_of_report report.Memory = of.Memory

@@ -1,0 +1,141 @@
+//! Why a run goes no further, and the one place that writes its line.
+
+ghost use Rattle.std.specs.Prelude.{◌≡◌};
+ghost use Rattle.report.specs.Refusals.{refusal_of};
+ghost use Rattle.audit_top.specs.Runs.{output};
+ghost use Rattle.audit_top.specs.Statuses.{refusal_status};
+ghost use Rattle.audit_top.specs.inside.Stops.{refusal_of_load, refusal_of_report, refusal_of_trie, stop_of};
+ghost use Rattle.audit_top.specs.inside.Endings.{EndsLine, EndsMemory, EndsStop, Finishes};
+
+use crate::status::Status;
+use dict_files::LoadFault;
+use outline_trie::TrieFault;
+use outside::Sink;
+use report::{FaultLine, ReportFault, write_fault, write_memory};
+use std::alloc::{AllocError, Global};
+
+/// Why a run goes no further.
+#[derive(Debug, Drop)]
+pub(crate) enum Refusal {
+    /// The arguments are not a command.
+    Arguments,
+    Dictionaries(LoadFault),
+    Nodes { count: u64 },
+    /// The output failed, so nothing more is written.
+    Output,
+    Memory,
+}
+
+impl From<LoadFault> for Refusal {
+    ghost from_gives = { λ fault refusal. refusal ≡ refusal_of_load fault };
+
+    fn from(fault: LoadFault) -> Refusal {
+        match fault {
+            LoadFault::Memory => Refusal::Memory,
+            fault => Refusal::Dictionaries(fault),
+        }
+    }
+}
+
+impl From<ReportFault> for Refusal {
+    ghost from_gives = { λ fault refusal. refusal ≡ refusal_of_report fault };
+
+    fn from(fault: ReportFault) -> Refusal {
+        match fault {
+            ReportFault::Failed => Refusal::Output,
+            ReportFault::Memory => Refusal::Memory,
+        }
+    }
+}
+
+impl From<TrieFault> for Refusal {
+    ghost from_gives = { λ fault refusal. refusal ≡ refusal_of_trie fault };
+
+    fn from(fault: TrieFault) -> Refusal {
+        match fault {
+            TrieFault::TooManyNodes { count } => Refusal::Nodes { count },
+            TrieFault::Memory => Refusal::Memory,
+        }
+    }
+}
+
+impl From<AllocError> for Refusal {
+    ghost use Rattle.audit_top.specs.declared.refusals.Refusal.TheVariants.{Memory};
+
+    ghost from_gives = { λ fault refusal. refusal ≡ Memory };
+
+    fn from(_fault: AllocError) -> Refusal {
+        Refusal::Memory
+    }
+}
+
+/// The status of a run that ends with the line of a refusal.
+fn line_status(fault: &FaultLine<'_>) -> Status
+    ensures { result ≡ refusal_status (refusal_of fault.now) }
+{
+    match *fault {
+        FaultLine::Words => Status::Words,
+        FaultLine::FileFailed { .. } | FaultLine::CertFailed => Status::File,
+        FaultLine::NotJson { .. } | FaultLine::NotObject { .. } | FaultLine::NotText { .. } => {
+            Status::Refused
+        }
+        FaultLine::Dictionaries { .. }
+        | FaultLine::Bytes { .. }
+        | FaultLine::OutlineLong { .. }
+        | FaultLine::Entries { .. }
+        | FaultLine::Nodes { .. }
+        | FaultLine::States { .. }
+        | FaultLine::CertLong => Status::Limit,
+        FaultLine::Memory => Status::Memory,
+        FaultLine::Rejected { .. } => Status::Rejected,
+    }
+}
+
+/// Puts the line that says that memory ran out. It is passed no allocator, so it needs none.
+pub(crate) fn put_memory<S: Sink>(out: &mut S) -> Status
+    ensures { let before = output (S.text out.old) (S.faults out.old) in
+        EndsMemory before (output (S.text out.new) (S.faults out.new)) result }
+{
+    match write_memory(out) {
+        Ok(()) => Status::Memory,
+        Err(ReportFault::Memory) => Status::Memory,
+        Err(ReportFault::Failed) => Status::Output,
+    }
+}
+
+/// Puts the line of a refusal.
+fn put_line<S: Sink>(alloc: Global, out: &mut S, line: &FaultLine<'_>) -> Status
+    ensures { let before = output (S.text out.old) (S.faults out.old) in
+        EndsLine (refusal_of line.now) before (output (S.text out.new) (S.faults out.new)) result }
+{
+    match write_fault(alloc, out, line) {
+        Ok(()) => line_status(line),
+        Err(ReportFault::Failed) => Status::Output,
+        Err(ReportFault::Memory) => put_memory(out),
+    }
+}
+
+/// Ends a run that goes no further.
+fn end_refused<S: Sink>(alloc: Global, out: &mut S, refusal: &Refusal) -> Status
+    ensures { let before = output (S.text out.old) (S.faults out.old) in
+        EndsStop (stop_of refusal.now) before (output (S.text out.new) (S.faults out.new)) result }
+{
+    match refusal {
+        Refusal::Output => Status::Output,
+        Refusal::Memory => put_memory(out),
+        Refusal::Arguments => put_line(alloc, out, &FaultLine::Words),
+        Refusal::Dictionaries(fault) => put_line(alloc, out, &fault.line()),
+        Refusal::Nodes { count } => put_line(alloc, out, &FaultLine::Nodes { count: *count }),
+    }
+}
+
+/// Ends a run: where it goes no further, puts its line. Nothing else does.
+pub(crate) fn finish<S: Sink>(alloc: Global, out: &mut S, answer: Result<Status, Refusal>) -> Status
+    ensures { let before = output (S.text out.old) (S.faults out.old) in
+        Finishes answer before (output (S.text out.new) (S.faults out.new)) result }
+{
+    match answer {
+        Ok(status) => status,
+        Err(refusal) => end_refused(alloc, out, &refusal),
+    }
+}

@@ -1,0 +1,3 @@
+pub mod FirstRefusals
+pub mod Files
+pub mod Turns

@@ -1,0 +1,5 @@
+pub mod DictFiles
+pub mod Refusals
+pub mod Contents
+pub mod Loading
+pub mod inside
