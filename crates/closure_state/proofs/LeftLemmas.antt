@@ -23,7 +23,7 @@ use Rattle.closure_state.specs.inside.Rows.{AreStateRows, IsDepthCut, IsRowsStep
 use Rattle.closure_state.specs.inside.Strokes.{AreStrokes, IsStrokesStep}
 use Rattle.closure_state.specs.inside.Left.{targets_for, targets_from, IsRowState, IsDepthOf, IsChainDepth}
 
--- what is some_listed for a stroke stands among its targets
+-- what is listed for a stroke stands among its targets
 for_by : (all : Bool) (entries words : List (List ℕ)) (s : Abstract) (c : ℕ) → targets_for all entries words s c ≢ [] → targets_by entries words s c ≢ []
 for_by true entries words s c some = some
 for_by false entries words s c some = λ none. some (ap (filter (is_kept s)) none)

@@ -15,11 +15,15 @@
 mod chain;
 mod hits;
 mod moves;
+#[cfg(test)]
+mod plain;
 mod row;
 mod rows;
 mod state;
 mod step;
 mod strokes;
+#[cfg(test)]
+mod tests;
 mod waiting;
 mod word_set;
 
