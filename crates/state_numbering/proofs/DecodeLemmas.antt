@@ -24,6 +24,7 @@ use Rattle.state_numbering.specs.declared.part.Part.{Part}
 use Rattle.state_numbering.specs.declared.offset.Lengths.{Lengths}
 use Rattle.state_numbering.specs.inside.Offsets.{HasOffset, IsMarked}
 use Rattle.state_numbering.specs.inside.Parts.{IsInPart, IsNodePart}
+use Rattle.state_numbering.specs.Numberings.{NumberingView}
 use Rattle.state_numbering.specs.ByNumber.{IsStateOf}
 use Rattle.state_numbering.proofs.NumberLemmas.{number_at}
 
@@ -124,8 +125,8 @@ no_state entries words number t are is fails = by (state_of_number entries words
     by (Some s) e = absurd (fails (only_candidate entries words number t s are is e))
 
 -- The answer of a number without a state.
-pub none_answered : (entries words : List (List ℕ)) (number : ℕ) (found : Option State) → found ≡ None → state_of_number entries words number ≡ None → MatchOption found (state_of_number entries words number ≡ None) (IsStateOf entries words number)
-none_answered entries words number found none is = subst (λ o. MatchOption o (state_of_number entries words number ≡ None) (IsStateOf entries words number)) (sym none) is
+pub none_answered : (v : NumberingView) (number : ℕ) (found : Option State) → found ≡ None → state_of_number v.entries v.words number ≡ None → MatchOption found (state_of_number v.entries v.words number ≡ None) (IsStateOf v number)
+none_answered v number found none is = subst (λ o. MatchOption o (state_of_number v.entries v.words number ≡ None) (IsStateOf v number)) (sym none) is
 
 -- A number that isn't below the count has no state.
 pub past_count : (entries words : List (List ℕ)) (number : ℕ) → AreWords entries words → number_count entries ≤ number → state_of_number entries words number ≡ None
@@ -157,9 +158,11 @@ not_open entries words number node word l are is short found shut = no_state ent
     true≢false (sym s.word ∙ ap (is_open words) (sym at.1) ∙ shut))
 
 -- In all other cases the candidate is the state.
-pub decoded : (entries words : List (List ℕ)) (number node : ℕ) (l : Lengths) (s : State) → AreWords entries words → IsCandidate entries number (candidate entries node l) → max l.window l.word ≡ length (node_strokes entries node) →
-    Some s.window ≡ suffix_of entries node l.window → Some s.word ≡ suffix_of entries node l.word → s.mark ≡ l.mark → is_open words (node_strokes entries s.word) ≡ true → IsStateOf entries words number s
-decoded entries words number node l s are is long window word mark opens =
+pub decoded : (v : NumberingView) (number node : ℕ) (l : Lengths) (s : State) → AreWords v.entries v.words → IsCandidate v.entries number (candidate v.entries node l) → max l.window l.word ≡ length (node_strokes v.entries node) →
+    Some s.window ≡ suffix_of v.entries node l.window → Some s.word ≡ suffix_of v.entries node l.word → s.mark ≡ l.mark → is_open v.words (node_strokes v.entries s.word) ≡ true → IsStateOf v number s
+decoded seen number node l s are is long window word mark opens =
+    let entries : List (List ℕ) = seen.entries in
+    let words : List (List ℕ) = seen.words in
     let z : List ℕ = node_strokes entries node in
     let u = entry_number-Some (nodes entries) (end_of z l.window) s.window (sym (window ∙ suffix_at entries node l.window (omega (arith, long)))) in
     let v = entry_number-Some (nodes entries) (end_of z l.word) s.word (sym (word ∙ suffix_at entries node l.word (omega (arith, long)))) in

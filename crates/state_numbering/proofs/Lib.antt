@@ -1,4 +1,3 @@
-pub mod OffsetLemmas
 pub mod PartLemmas
 pub mod BlockLemmas
 pub mod NumberLemmas

@@ -11,17 +11,6 @@ use Rattle.state_numbering.specs.declared.part.Part.{Part}
 use Rattle.state_numbering.specs.inside.Parts.{IsNodePart, ArePartsBelow, AreNodeParts, IsInPart}
 use Rattle.state_numbering.specs.inside.Blocks.{starts_at, IsLastBegun}
 
--- A part ends where the next one begins.
-pub part_step : (entries : List (List ℕ)) (node size depth : ℕ) → IsNode entries node → size ≡ part_size depth → depth ≡ length (node_strokes entries node) →
-    part_start (nodes entries) node + size ≡ part_start (nodes entries) (node + 1)
-part_step entries node size depth inside size_is depth_is = ap (λ s. part_start (nodes entries) node + s) (size_is ∙ ap part_size depth_is) ∙ sym (start_step (nodes entries) node inside)
-
--- No part begins behind the count.
-pub start_within : (entries : List (List ℕ)) (node : ℕ) → node ≤ length (nodes entries) → part_start (nodes entries) node ≤ number_count entries
-start_within entries node inside =
-    let more : node + (length (nodes entries) - node) ≡ length (nodes entries) = omega arith in
-    subst (λ k. part_start (nodes entries) node ≤ part_start (nodes entries) k) more (start_up (nodes entries) node (length (nodes entries) - node) (omega arith))
-
 -- Each part has a number.
 starts_up : (ns : List (List ℕ)) (k : ℕ) → k ≤ length ns → k ≤ part_start ns k
 starts_up ns zero inside = omega arith
@@ -37,26 +26,6 @@ nodes_within entries = starts_up (nodes entries) (length (nodes entries)) (omega
 -- and one number at least.
 pub count_some : (entries : List (List ℕ)) → 0 < number_count entries
 count_some entries = omega (arith, nodes_within entries, root_inside entries)
-
--- At first there is none.
-pub parts_none : (entries : List (List ℕ)) (parts : List Part) → parts ≡ [] → ArePartsBelow entries 0 parts
-parts_none entries parts none = record { long = ap length none; each = λ node d below. absurd (omega arith) }
-
--- One part more.
-pub parts_more : (entries : List (List ℕ)) (count : ℕ) (parts new : List Part) (part : Part) → ArePartsBelow entries count parts → IsNodePart entries count part → new ≡ parts ++ part ∷ [] → ArePartsBelow entries (count + 1) new
-parts_more entries count parts new part h is grown = record {
-  long = ap length grown ∙ length_push parts part ∙ ap (λ n. n + 1) h.long;
-  each = λ node d below. elim (cases_lt node count) [
-    | inl lt ↦ subst (IsNodePart entries node) (sym (ap (λ l. get_or l node d) grown ∙ get_or_append_left parts (part ∷ []) d node (omega (arith, h.long)))) (h.each node d lt)
-    | inr ge ↦
-        let same : count ≡ node = omega arith in
-        subst (IsNodePart entries node) (sym (ap (λ l. get_or l node d) grown ∙ get_or_push parts part d node (h.long ∙ same))) (subst (λ n. IsNodePart entries n part) same is)
-  ];
-}
-
--- The first part begins with 0.
-pub first_start : (entries : List (List ℕ)) (parts : List Part) → AreNodeParts entries parts → 0 < length (nodes entries) → starts_at parts 0 ≡ 0
-first_start entries parts are some = (are.each 0 _ some).start ∙ refl
 
 -- The last part that begins at or before a number has it.
 pub in_part : (entries : List (List ℕ)) (parts : List Part) (number node : ℕ) → AreNodeParts entries parts → number < number_count entries → IsLastBegun parts number node → IsInPart entries number node

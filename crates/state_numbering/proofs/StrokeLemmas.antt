@@ -10,6 +10,7 @@ use Rattle.outline_trie.specs.Tries.{node_strokes, IsLast}
 use Rattle.outline_trie.proofs.LookLemmas.{root_is}
 use Rattle.closure_state.specs.declared.state.State.{State}
 use Rattle.closure_state.specs.NodeStates.{state_at}
+use Rattle.state_numbering.specs.Numberings.{NumberingView}
 use Rattle.state_numbering.specs.ByNumber.{IsStateOf, IsStrokeInto, HasNoStroke}
 
 -- the last stroke of a list
@@ -17,16 +18,18 @@ last_of : (x front : List ℕ) (code : ℕ) → x ≡ front ++ code ∷ [] → d
 last_of x front code is = ap (λ y. drop (length y - 1) y) is ∙ drop_at front (code ∷ []) (length (front ++ code ∷ []) - 1) (omega (arith, length_push front code))
 
 -- The answer is that of the node of the state's longer list.
-pub stroke_of_node : (entries words : List (List ℕ)) (number node : ℕ) (s : State) (found : Option ℕ) → IsStateOf entries words number s → longer (state_at entries s) ≡ node_strokes entries node → MatchOption found (node ≡ 0) (IsLast entries node) →
-    MatchOption found (HasNoStroke entries words number) (IsStrokeInto entries words number)
-stroke_of_node entries words number node s None is long last = λ t at.
-    let same : Some (state_at entries s) ≡ Some t = sym is.number_is ∙ at in
-    let same' : state_at entries s ≡ t = cc in
-    ap longer (sym same') ∙ long ∙ ap (node_strokes entries) last ∙ root_is entries
-stroke_of_node entries words number node s (Some code) is long last = record {
-  state = state_at entries s;
+pub stroke_of_node : (v : NumberingView) (number node : ℕ) (s : State) (found : Option ℕ) → IsStateOf v number s → longer (state_at v.entries s) ≡ node_strokes v.entries node → MatchOption found (node ≡ 0) (IsLast v.entries node) →
+    MatchOption found (HasNoStroke v number) (IsStrokeInto v number)
+stroke_of_node v number node s None is long last = λ code into.
+    let found : Some (state_at v.entries s) ≡ Some into.state = sym is.number_is ∙ into.number_is in
+    let same : state_at v.entries s ≡ into.state = cc in
+    let none : longer into.state ≡ [] = ap longer (sym same) ∙ long ∙ ap (node_strokes v.entries) last ∙ root_is v.entries in
+    let wrong : [] ≡ code ∷ [] = sym (ap (λ x. drop (length x - 1) x) none) ∙ into.stroke in
+    cc
+stroke_of_node v number node s (Some code) is long last = record {
+  state = state_at v.entries s;
   number_is = is.number_is;
-  stroke = ap (λ x. drop (length x - 1) x) long ∙ last_of (node_strokes entries node) _ code last;
+  stroke = ap (λ x. drop (length x - 1) x) long ∙ last_of (node_strokes v.entries node) _ code last;
 }
 
 -- The longer list is the window's where the open word has no more strokes,

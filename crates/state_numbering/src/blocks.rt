@@ -1,7 +1,7 @@
 //! An index of the numbers, so that the part of a number is found without a search over all parts.
 ghost use Rattle.std.specs.Prelude.{◌≡◌, ◌<◌, ◌≤◌, ◌+◌, ◌*◌, ◌/◌, ◌^◌, length, IfOk};
 ghost use Rattle.state_numbering.specs.Causes.{most_states};
-ghost use Rattle.state_numbering.specs.inside.Blocks.{starts_at, AreBlockStarts, IsBegun, IsLastBegun};
+ghost use Rattle.state_numbering.specs.inside.Blocks.{starts_at, AreBlockStarts, BeginsBy, IsLastBegun};
 ghost use Rattle.state_numbering.specs.inside.Invariants.{AreBlocksOf};
 
 use crate::part::Part;
@@ -17,7 +17,7 @@ pub(crate) struct Blocks {
 
 /// The last part from one on that begins at or before a number.
 pub(crate) fn last_begun(parts: &[Part], from: u32, number: u32) -> u32
-    requires from { IsBegun parts.now number from }
+    requires from { BeginsBy parts.now number from }
     requires few { length parts.now < 2 ^ 32 }
     ensures { IsLastBegun parts.now number result }
 {

@@ -20,6 +20,8 @@ mod numbering;
 mod offset;
 mod part;
 mod parts;
+#[cfg(test)]
+mod tests;
 
 pub use count::MAX_STATES;
 pub use fault::NumberFault;

@@ -1,15 +1,16 @@
 //! From states to numbers and back.
-ghost use Rattle.std.specs.Prelude.{◌≡◌, ◌<◌, ◌≤◌, ◌^◌, IfErr, IfOk, IfSome, MatchOption, None, length, ℕ};
+ghost use Rattle.std.specs.Prelude.{◌≡◌, ◌<◌, ◌≤◌, ◌^◌, IfErr, IfOk, MatchOption, None, length};
 ghost use Rattle.steno_rules.specs.ClosureGraphs.{numbers_by};
 ghost use Rattle.steno_rules.specs.Outlines.{AreWords};
 ghost use Rattle.steno_rules.specs.States.{kept_targets};
 ghost use Rattle.steno_rules.specs.StateNumbers.{number_count, state_number, state_of_number};
-ghost use Rattle.steno_rules.specs.WordSets.{IsWordSet, words_in};
+ghost use Rattle.steno_rules.specs.WordSets.{IsWordSet};
 ghost use Rattle.outline_trie.specs.Tries.{IsNode, node_strokes, suffix_of};
 ghost use Rattle.closure_state.specs.NodeStates.{IsNodeState, state_at};
-ghost use Rattle.state_numbering.specs.ByNumber.{HasNoStroke, IsHitOf, IsStateOf, IsStrokeInto};
+ghost use Rattle.state_numbering.specs.ByNumber.{HasNoHit, HasNoStroke, IsHitOf, IsStateOf, IsStrokeInto};
 ghost use Rattle.state_numbering.specs.Causes.{IsNumberCause, most_states};
 ghost use Rattle.state_numbering.specs.Cursors.{OwnsMoves, numbers_left};
+ghost use Rattle.state_numbering.specs.Numberings.{numbering_of};
 
 use crate::fault::NumberFault;
 use crate::offset::{Lengths, lengths_at, offset_of};
@@ -32,13 +33,12 @@ pub struct Numbering<'a> {
 }
 
 impl<'a> Model for Numbering<'a> {
-    ghost use Rattle.steno_rules.specs.WordSets.{words_in};
-    ghost use Rattle.state_numbering.specs.Numberings.{NumberingView};
+    ghost use Rattle.state_numbering.specs.Numberings.{NumberingView, numbering_of};
     ghost use Rattle.state_numbering.specs.inside.Invariants.{IsNumbering};
 
     ghost Value = { NumberingView };
 
-    ghost view = { λ n. record { entries = n.trie.now; words = words_in n.trie.now n.words.now } };
+    ghost view = { λ n. numbering_of n.trie.now n.words.now };
 
     ghost invariant = { λ n. IsNumbering n.windows.now n.parts n.trie.now n.words.now };
 }
@@ -54,9 +54,7 @@ impl<'a> Numbering<'a> {
     ) -> Result<Numbering<'a>, NumberFault>
         requires windows { windows.now ≡ trie.now }
         requires words { IsWordSet trie.now words.now }
-        ensures numbered {
-            IfOk result (λ n. n ≡ record { entries = trie.now; words = words_in trie.now words.now })
-        }
+        ensures numbered { IfOk result (λ n. n ≡ numbering_of trie.now words.now) }
         ensures within { IfOk result (λ n. number_count trie.now ≤ most_states) }
         ensures cause { IfErr result (IsNumberCause (number_count trie.now)) }
     {
@@ -84,7 +82,8 @@ impl<'a> Numbering<'a> {
     /// The number of a state, found without a look-up.
     pub fn number(&self, state: State) -> u32
         requires { IsNodeState self.now.entries self.now.words state }
-        ensures number { result ≡ state_number self.now.entries (state_at self.now.entries state) }
+        ensures number { result
+            ≡ state_number self.now.entries (state_at self.now.entries state) }
         ensures below { result < number_count self.now.entries }
     {
         let window = self.parts.part(state.window);
@@ -105,10 +104,9 @@ impl<'a> Numbering<'a> {
     /// The state of a number, None exactly where no state has it. A block of the index, a short scan, and one look-up a
     /// stroke of the shorter list.
     pub fn state(&self, number: u32) -> Option<State>
-        ensures {
-            MatchOption result (state_of_number self.now.entries self.now.words number ≡ None)
-                (IsStateOf self.now.entries self.now.words number)
-        }
+        ensures { MatchOption result
+            (state_of_number self.now.entries self.now.words number ≡ None)
+            (IsStateOf self.now number) }
     {
         if number >= self.parts.count() {
             return None;
@@ -146,11 +144,9 @@ impl<'a> Numbering<'a> {
 
     /// The kept moves of the state of a number, None where none has it.
     pub(crate) fn moves(&self, number: u32) -> Option<Moves<'a>>
-        ensures left {
-            numbers_left self.now result
-                ≡ numbers_by self.now.entries (kept_targets self.now.entries self.now.words)
-                    (state_of_number self.now.entries self.now.words number)
-        }
+        ensures left { numbers_left self.now result
+            ≡ numbers_by self.now.entries (kept_targets self.now.entries self.now.words)
+            (state_of_number self.now.entries self.now.words number) }
         ensures owned { OwnsMoves self.now result }
         ensures few { length (numbers_left self.now result) < 2 ^ 32 }
     {
@@ -163,10 +159,7 @@ impl<'a> Numbering<'a> {
     /// The last stroke of the longer of the two lists of a number's state, u where they are of equal length. None exactly
     /// where no state has the number or both lists are empty.
     pub fn stroke_into(&self, number: u32) -> Option<Stroke>
-        ensures {
-            MatchOption result (HasNoStroke self.now.entries self.now.words number)
-                (IsStrokeInto self.now.entries self.now.words number)
-        }
+        ensures { MatchOption result (HasNoStroke self.now number) (IsStrokeInto self.now number) }
     {
         let state = self.state(number)?;
         if self.trie.depth(state.word) <= self.trie.depth(state.window) {
@@ -178,12 +171,7 @@ impl<'a> Numbering<'a> {
 
     /// The hit that the state of a number is, None exactly where no state has the number or its state is no hit.
     pub fn hit_of(&self, number: u32) -> Option<Hit>
-        ensures hit {
-            MatchOption result
-                ((e place : ℕ) → IsHitOf self.now.entries self.now.words number e place → ⊥)
-                (λ h. IsHitOf self.now.entries self.now.words number h.entry h.place)
-        }
-        ensures entry { IfSome result (λ h. h.entry < length self.now.entries) }
+        ensures { MatchOption result (HasNoHit self.now number) (IsHitOf self.now number) }
     {
         let state = self.state(number)?;
         hit(self.trie, self.windows, &state)

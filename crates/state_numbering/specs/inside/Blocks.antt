@@ -8,13 +8,13 @@ use Rattle.state_numbering.specs.declared.part.Part.{Part}
 abbrev pub starts_at : List Part → ℕ → ℕ
 starts_at parts node = (slice_index_or parts node (record { start = 0; depth = 0 })).start
 
-pub record IsBegun (parts : List Part) (number node : ℕ) : Type 0 where
+pub record BeginsBy (parts : List Part) (number node : ℕ) : Type 0 where
   pub inside : node < length parts
   pub from : starts_at parts node ≤ number
 
 pub record IsLastBegun (parts : List Part) (number node : ℕ) : Type 0 where
-  pub begun : IsBegun parts number node
+  pub begun : BeginsBy parts number node
   pub next : node + 1 < length parts → number < starts_at parts (node + 1)
 
 abbrev pub AreBlockStarts : List Part → ℕ → List ℕ → Type 0
-AreBlockStarts parts width nodes = (block : ℕ) → block < length nodes → IsBegun parts (block * width) (get_or nodes block 0)
+AreBlockStarts parts width nodes = (block : ℕ) → block < length nodes → BeginsBy parts (block * width) (get_or nodes block 0)

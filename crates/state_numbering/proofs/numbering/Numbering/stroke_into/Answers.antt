@@ -10,7 +10,7 @@ returns-then-depth c =
     let E = c.args.self.now.entries in
     let s = c.in_ok-state.state in
     let same = ap (λ (v : NumberingView). v.entries) c.self.view_is in
-    stroke_of_node E c.args.self.now.words c.args.number s.window s c.last.result c.in_ok-state.ensures
+    stroke_of_node c.args.self.now c.args.number s.window s c.last.result c.in_ok-state.ensures
     (longer_window E s c.depth-2.result c.depth.result (c.depth-2.ensures.depth ∙ ap (λ es. length (node_strokes es s.window)) same) (c.depth.ensures.depth ∙ ap (λ es. length (node_strokes es s.word)) same) c.if-depth.true)
     (subst (λ es. MatchOption c.last.result (s.window ≡ 0) (IsLast es s.window)) same c.last.ensures)
 
@@ -19,6 +19,6 @@ returns-else-depth c =
     let E = c.args.self.now.entries in
     let s = c.in_ok-state.state in
     let same = ap (λ (v : NumberingView). v.entries) c.self.view_is in
-    stroke_of_node E c.args.self.now.words c.args.number s.word s c.last-else-depth.result c.in_ok-state.ensures
+    stroke_of_node c.args.self.now c.args.number s.word s c.last-else-depth.result c.in_ok-state.ensures
     (longer_word E s c.depth-2.result c.depth.result (c.depth-2.ensures.depth ∙ ap (λ es. length (node_strokes es s.window)) same) (c.depth.ensures.depth ∙ ap (λ es. length (node_strokes es s.word)) same) c.if-depth.false)
     (subst (λ es. MatchOption c.last-else-depth.result (s.word ≡ 0) (IsLast es s.word)) same c.last-else-depth.ensures)
