@@ -1,0 +1,3 @@
+pub mod Deques
+pub mod Rules
+pub mod inside
