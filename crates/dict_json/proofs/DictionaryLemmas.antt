@@ -4,15 +4,15 @@ use Rattle.std.specs.List.{AllByRecursion, cons_option}
 use Rattle.std.proofs.lemmas.List.{length-map}
 use Rattle.std.proofs.lemmas.List.Elements.{Contains-get_or, All-from_recursion, All-contains}
 use Rattle.std.proofs.lemmas.Bool.{ltb-false}
-use Rattle.steno_rules.specs.Nodes.{insert_new, by_order}
+use Rattle.steno_rules.specs.Nodes.{insert_new, by_order, in_order}
 use Rattle.steno_rules.specs.Outlines.{AreRising, IsOutline, most_strokes, outline_cmp}
 use Rattle.steno_order.specs.Reading.{spelt_strokes}
 use Rattle.steno_order.specs.Spelling.{parts_of}
 use Rattle.dict_json.specs.Reading.{Member, Keyed, keyed, AreInOrder}
-use Rattle.dict_json.specs.Dictionaries.{Entry, IsDictionary, entry_outlines, in_order, spelt, standing, last_of_each, skipped_of, dictionary_of}
+use Rattle.dict_json.specs.Dictionaries.{Entry, IsDictionary, entry_outlines, spelt, standing, last_of_each, skipped_of, dictionary_of}
 use Rattle.dict_json.specs.Outcomes.{is_too_long, keys_outcome, members_outcome, dictionary}
 use Rattle.dict_json.specs.inside.Walks.{KeysView, walked}
-use Rattle.dict_json.proofs.InOrder.{in_order-rising, in_order-Contains}
+use Rattle.steno_rules.proofs.InOrder.{in_order-rising, in_order-Contains}
 use Rattle.serde_json.specs.Find.{as_str}
 use Rattle.steno_rules.proofs.Rising.{Rises, rises_of_pairs}
 use Rattle.dict_json.proofs.KeyOrder.{Before, some_in_order}
@@ -109,7 +109,7 @@ dictionary-IsDictionary pairs short rises few =
     }
 
 -- members whose values are texts have their names as keys
-keys_of_texts : (members : List Member) → find (λ m. is_none (keyed m)) members ≡ None → map (λ (p : Keyed). p.key) (filter_map keyed members) ≡ map (λ (m : Member). m.name) members
+pub keys_of_texts : (members : List Member) → find (λ m. is_none (keyed m)) members ≡ None → map (λ (p : Keyed). p.key) (filter_map keyed members) ≡ map (λ (m : Member). m.name) members
 keys_of_texts [] e = refl
 keys_of_texts (m ∷ ms) e = let f = fails (λ q. is_none (keyed q)) m ms e in by (as_str m.value) f.0 (keys_of_texts ms f.1)
   where

@@ -2,11 +2,10 @@
 use Rattle.std.proofs.Common.{ℕ, suc, ◌≡◌, ◌+◌, List, [], ◌∷◌, length, refl, sym, ap, ◌∙◌, arith, fold, Contains, inl, inr, Ordering, Less, Equal, Greater, subst}
 use Rattle.std.specs.Cmp.Lexicographic.{nat_list_cmp_total}
 use Rattle.steno_rules.specs.Outlines.{outline_cmp}
-use Rattle.steno_rules.specs.Nodes.{by_order, insert_new}
+use Rattle.steno_rules.specs.Nodes.{by_order, insert_new, in_order}
 use Rattle.steno_rules.proofs.Lists.{in_first, in_later, none_in_nil}
 use Rattle.steno_rules.proofs.Rising.{in_insert}
-use Rattle.dict_json.specs.Dictionaries.{in_order}
-use Rattle.dict_json.proofs.InOrder.{same_of_equal}
+use Rattle.steno_rules.proofs.NodeLemmas.{same_of_equal}
 
 -- none of the outlines comes twice
 abbrev pub AreDistinct : List (List ℕ) → Type 0

@@ -8,18 +8,18 @@ use Rattle.std.proofs.lemmas.List.{length-map}
 use Rattle.serde_json.specs.Data.{string, object, Members, no_members, member, put}
 use Rattle.serde_json.specs.Find.{as_str}
 use Rattle.steno_rules.specs.Outlines.{most_strokes, outline_cmp}
-use Rattle.steno_rules.specs.Nodes.{insert_new}
+use Rattle.steno_rules.specs.Nodes.{insert_new, in_order}
 use Rattle.steno_rules.proofs.Lists.{in_cons, in_first, in_later, in_map, none_in_nil}
 use Rattle.steno_rules.proofs.Rising.{Rises, rises_of_pairs, below_itself}
 use Rattle.steno_order.specs.Reading.{spelt_strokes}
 use Rattle.steno_order.specs.Spelling.{parts_of}
 use Rattle.steno_order.specs.Canonical.{canonical_text}
 use Rattle.dict_json.specs.Reading.{Member, Keyed, keyed, members_of, names_of, reading}
-use Rattle.dict_json.specs.Dictionaries.{DictionaryView, IsWhole, entry_outlines, in_order, spelt, last_of_each, skipped_of, dictionary_of}
+use Rattle.dict_json.specs.Dictionaries.{DictionaryView, IsWhole, entry_outlines, spelt, last_of_each, skipped_of, dictionary_of}
 use Rattle.dict_json.specs.Outcomes.{is_too_long, keys_outcome, members_outcome, object_outcome, value_outcome, dictionary_outcome, dictionary}
 use Rattle.dict_json.specs.Generated.{most_generated, first_draw, key_of, is_new, generated_text}
 use Rattle.dict_json.proofs.Distinct.{AreDistinct, in_order-length}
-use Rattle.dict_json.proofs.InOrder.{in_order-rising, in_order-Contains}
+use Rattle.steno_rules.proofs.InOrder.{in_order-rising, in_order-Contains}
 use Rattle.dict_json.proofs.GeneratedKeys.{IsCanonicalKey, key_canonical}
 use Rattle.dict_json.proofs.GeneratedTokens.{value_of, with_members, read_object}
 use Rattle.dict_json.proofs.KeyOrder.{put_names}

@@ -12,8 +12,9 @@ use Rattle.std.specs.Option.{option_map_or}
 use Rattle.steno_rules.specs.Outlines.{outline_cmp}
 use Rattle.steno_rules.proofs.Lists.{none_in_nil, in_cons, in_first, in_later, in_map, in_map_of}
 use Rattle.steno_rules.proofs.Rising.{Rises, pairs_of_rises, rising_same}
-use Rattle.dict_json.specs.Dictionaries.{Entry, entry_outlines, in_order, has_outline, standing, last_of_each}
-use Rattle.dict_json.proofs.InOrder.{in_order-rising, in_order-Contains}
+use Rattle.steno_rules.specs.Nodes.{in_order}
+use Rattle.dict_json.specs.Dictionaries.{Entry, entry_outlines, has_outline, standing, last_of_each}
+use Rattle.steno_rules.proofs.InOrder.{in_order-rising, in_order-Contains}
 
 -- the first entry's outline comes before the second one's
 abbrev pub is_before : Entry → Entry → Bool

@@ -2,10 +2,10 @@
 --     dictionary_of pairs     its entries in outline order, the skipped keys, and how many keys are folded
 --     IsDictionary d          what every dictionary is
 --     IsWhole d               each key made an entry of its own
-use Rattle.std.specs.Prelude.{ℕ, ◌+◌, ◌-◌, ◌<◌, ◌≡◌, ◌^◌, List, [], Bool, All, map, filter, filter_map, find, fold, length, reverse, nat_eq, is_none, option_map}
+use Rattle.std.specs.Prelude.{ℕ, ◌+◌, ◌-◌, ◌<◌, ◌≡◌, ◌^◌, List, [], Bool, All, map, filter, filter_map, find, length, reverse, nat_eq, is_none, option_map}
 use Rattle.std.specs.Option.{option_map_or}
 use Rattle.std.specs.Cmp.Lexicographic.{pointwise}
-use Rattle.steno_rules.specs.Nodes.{insert_new}
+use Rattle.steno_rules.specs.Nodes.{in_order}
 use Rattle.steno_rules.specs.Outlines.{AreEntries, IsOutline}
 use Rattle.steno_order.specs.Reading.{spelt_strokes}
 use Rattle.dict_json.specs.Reading.{Keyed, AreInOrder}
@@ -24,10 +24,6 @@ pub record DictionaryView : Type 0 where
 -- the outlines of entries
 abbrev pub entry_outlines : List Entry → List (List ℕ)
 entry_outlines entries = map (λ e. e.outline) entries
-
--- the outlines in their order, each once
-abbrev pub in_order : List (List ℕ) → List (List ℕ)
-in_order outlines = fold insert_new [] outlines
 
 -- what each readable key spells, with its text
 abbrev pub spelt : List Keyed → List Entry

@@ -7,11 +7,11 @@ use Rattle.std.proofs.lemmas.List.Sorted.{sorted_far, ranks_by}
 use Rattle.steno_rules.specs.Outlines.{outline_cmp, AreRising}
 use Rattle.steno_rules.proofs.Lists.{in_first, in_later, in_map}
 use Rattle.steno_rules.proofs.Numbers.{not_below_self}
-use Rattle.dict_json.specs.Dictionaries.{in_order}
+use Rattle.steno_rules.specs.Nodes.{in_order}
 use Rattle.dict_stack.specs.inside.Candidates.{candidate_outline, said_first, some_word, IsMerged, AreSorted, is_end}
 use Rattle.dict_stack.specs.declared.candidates.Candidate.{Candidate}
 use Rattle.dict_stack.specs.declared.columns.Columns.{Columns}
-use Rattle.dict_json.proofs.InOrder.{in_order-rising, in_order-Contains}
+use Rattle.steno_rules.proofs.InOrder.{in_order-rising, in_order-Contains}
 use Rattle.dict_stack.proofs.OrderLemmas.{in_order_push}
 use Rattle.dict_stack.proofs.EndLemmas.{NoneAbove, insert_last, not_there, is_end-front}
 use Rattle.dict_stack.proofs.FirstLemmas.{said_kept, said_new, word_kept, word_here, word_new}

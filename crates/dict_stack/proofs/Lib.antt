@@ -9,3 +9,4 @@ pub mod CountLemmas
 pub mod StableLemmas
 pub mod StackLemmas
 pub mod ViewLemmas
+pub mod LiveLemmas

@@ -5,9 +5,8 @@ use Rattle.std.specs.Ordering.{is_lt, ordering_reverse}
 use Rattle.std.specs.Cmp.Lexicographic.{nat_list_cmp_total}
 use Rattle.std.proofs.lemmas.List.Sums.{fold_push}
 use Rattle.steno_rules.specs.Outlines.{outline_cmp, AreRising}
-use Rattle.steno_rules.specs.Nodes.{insert_new}
+use Rattle.steno_rules.specs.Nodes.{insert_new, in_order}
 use Rattle.steno_rules.proofs.Lists.{pairs_tail}
-use Rattle.dict_json.specs.Dictionaries.{in_order}
 
 -- no outline is above itself
 pub not_above_self : (x : List ℕ) → outline_cmp x x ≡ Greater → ⊥

@@ -8,11 +8,11 @@ use Rattle.std.proofs.lemmas.List.Elements.{filter_agree}
 use Rattle.std.proofs.lemmas.List.Sorted.{IsPermutation-map, IsPermutation-sym, Contains-permutation, list_any-IsPermutation}
 use Rattle.steno_rules.specs.Outlines.{outline_cmp}
 use Rattle.steno_rules.proofs.Rising.{rising_same}
-use Rattle.dict_json.specs.Dictionaries.{in_order}
+use Rattle.steno_rules.specs.Nodes.{in_order}
 use Rattle.dict_stack.specs.inside.Candidates.{candidate, candidate_outline, spells, said_first, some_word, IsMerged}
 use Rattle.dict_stack.specs.declared.candidates.Candidate.{Candidate}
 use Rattle.dict_stack.specs.declared.columns.Columns.{Columns}
-use Rattle.dict_json.proofs.InOrder.{in_order-rising, in_order-Contains}
+use Rattle.steno_rules.proofs.InOrder.{in_order-rising, in_order-Contains}
 use Rattle.dict_stack.proofs.ColumnLemmas.{map_same}
 
 module _ {X : Type 0} where

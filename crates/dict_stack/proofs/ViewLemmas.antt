@@ -5,12 +5,13 @@ use Rattle.std.proofs.lemmas.List.Elements.{All-contains, All-map}
 use Rattle.std.proofs.lemmas.List.Quantifiers.{position-Some}
 use Rattle.steno_rules.specs.Outlines.{AreRising, IsOutline}
 use Rattle.steno_rules.proofs.Lists.{none_in_nil, all_of}
-use Rattle.dict_json.specs.Dictionaries.{DictionaryView, entry_outlines, in_order}
+use Rattle.steno_rules.specs.Nodes.{in_order}
+use Rattle.dict_json.specs.Dictionaries.{DictionaryView, entry_outlines}
 use Rattle.dict_stack.specs.Stacks.{StackView, IsStack, stack_of, all_outlines, first_text, first_place, is_supplied, dictionary_has, most_entries, most_dictionaries}
 use Rattle.dict_stack.specs.inside.Candidates.{candidates_from, candidate_outline, said_first, some_word, IsCollected, IsMerged}
 use Rattle.dict_stack.specs.declared.candidates.Collected.{Collected}
 use Rattle.dict_stack.specs.declared.columns.Columns.{Columns}
-use Rattle.dict_json.proofs.InOrder.{in_order-rising, in_order-Contains}
+use Rattle.steno_rules.proofs.InOrder.{in_order-rising, in_order-Contains}
 use Rattle.dict_stack.proofs.ColumnLemmas.{map_same}
 use Rattle.dict_stack.proofs.StackLemmas.{candidates_outlines, said_text, said_place, some_words}
 

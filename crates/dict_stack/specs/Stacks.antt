@@ -1,10 +1,11 @@
 -- The stack of dictionaries, the first of which has the highest priority.
 --     stack_of dictionaries word_files    its entries in outline order, with their texts, and which of them are words
 --     IsStack s                       what every stack is
-use Rattle.std.specs.Prelude.{ℕ, ◌≡◌, ◌+◌, ◌*◌, ◌<◌, ◌≤◌, ◌^◌, List, [], Bool, ◌&&◌, All, map, flat_map, find, zip, length, sum_by, unwrap_or, option_map, option_and_then, position}
+use Rattle.std.specs.Prelude.{ℕ, ◌≡◌, ◌+◌, ◌*◌, ◌<◌, ◌≤◌, ◌^◌, List, [], Contains, Bool, ◌&&◌, All, map, flat_map, find, zip, length, sum_by, unwrap_or, option_map, option_and_then, position}
 use Rattle.std.specs.List.{list_any}
 use Rattle.steno_rules.specs.Outlines.{AreEntries, IsOutline}
-use Rattle.dict_json.specs.Dictionaries.{DictionaryView, entry_outlines, in_order, has_outline}
+use Rattle.steno_rules.specs.Nodes.{in_order}
+use Rattle.dict_json.specs.Dictionaries.{DictionaryView, entry_outlines, has_outline}
 
 -- the entries by number, with their translations, the places of the dictionaries that these are from, and which entries are words;
 -- and of each dictionary the skipped keys, and of all the number of folded keys
@@ -23,6 +24,14 @@ dictionary_has outline dictionary = list_any (has_outline outline) dictionary.en
 -- all outlines that some dictionary has, in their order, each once
 abbrev pub all_outlines : List DictionaryView → List (List ℕ)
 all_outlines dictionaries = in_order (flat_map (λ d. entry_outlines d.entries) dictionaries)
+
+-- the outline is one of these
+abbrev pub IsLive : List DictionaryView → List ℕ → Type 0
+IsLive dictionaries outline = Contains (all_outlines dictionaries) outline
+
+-- some dictionary has an entry with the outline
+abbrev pub IsHeldBySome : List DictionaryView → List ℕ → Type 0
+IsHeldBySome dictionaries outline = (d : DictionaryView) × Contains dictionaries d × Contains (entry_outlines d.entries) outline
 
 -- the text of an outline in the first dictionary that has it
 abbrev pub first_text : List DictionaryView → List ℕ → List ℕ

@@ -3,7 +3,7 @@
 ghost use Rattle.std.specs.Prelude.{◌≡◌, ◌≤◌, [], map, length, OnOk, IfOk, IfErr};
 ghost use Rattle.std.specs.List.Sorted.{IsPermutation, IsStableByKey};
 ghost use Rattle.steno_rules.specs.Outlines.{outline_cmp};
-ghost use Rattle.dict_json.specs.Dictionaries.{in_order};
+ghost use Rattle.steno_rules.specs.Nodes.{in_order};
 ghost use Rattle.dict_stack.specs.inside.Candidates.{candidate_outline, AreSorted, IsMerged, Adds, is_end};
 ghost use Rattle.dict_stack.specs.Stacks.{most_entries};
 ghost use Rattle.dict_stack.specs.Faults.{IsStackCause};

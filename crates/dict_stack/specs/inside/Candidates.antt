@@ -7,7 +7,8 @@ use Rattle.std.specs.List.{list_any}
 use Rattle.std.specs.List.Sorted.{IsSortedByKey}
 use Rattle.std.specs.Cmp.Lexicographic.{pointwise}
 use Rattle.steno_rules.specs.Outlines.{IsOutline, outline_cmp}
-use Rattle.dict_json.specs.Dictionaries.{Entry, DictionaryView, in_order}
+use Rattle.steno_rules.specs.Nodes.{in_order}
+use Rattle.dict_json.specs.Dictionaries.{Entry, DictionaryView}
 use Rattle.dict_stack.specs.declared.candidates.Candidate.{Candidate}
 use Rattle.dict_stack.specs.declared.candidates.Collected.{Collected}
 use Rattle.dict_stack.specs.declared.columns.Columns.{Columns}

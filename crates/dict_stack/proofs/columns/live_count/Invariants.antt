@@ -1,5 +1,5 @@
 use Rattle.std.proofs.Common.{◌≡◌, ◌≤◌, map, length, take}
-use Rattle.dict_json.specs.Dictionaries.{in_order}
+use Rattle.steno_rules.specs.Nodes.{in_order}
 use Rattle.dict_stack.specs.inside.Candidates.{candidate_outline}
 use Rattle.dict_stack.proofs.columns.live_count.Given as goal
 

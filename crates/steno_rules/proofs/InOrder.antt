@@ -1,14 +1,11 @@
 -- Outlines in order, each once: they rise, and are the same outlines.
-use Rattle.std.proofs.Common.{ℕ, ◌≡◌, List, [], Contains, ◌↔◌, inl, inr, ap, ◌∙◌, is_eq, Equal, Less}
-use Rattle.std.specs.Cmp.Lexicographic.{bytes_decides, nat_list_cmp_total, texts_ties}
+use Rattle.std.proofs.Common.{ℕ, ◌≡◌, List, [], Contains, ◌↔◌, inl, inr, Less}
+use Rattle.std.specs.Cmp.Lexicographic.{nat_list_cmp_total}
+use Rattle.steno_rules.specs.Nodes.{in_order}
 use Rattle.steno_rules.specs.Outlines.{AreRising, outline_cmp}
 use Rattle.steno_rules.proofs.Lists.{none_in_nil}
 use Rattle.steno_rules.proofs.Rising.{Rises, pairs_of_rises, fold_rises, in_fold, fold_there}
-use Rattle.dict_json.specs.Dictionaries.{in_order}
-
--- what compares as equal is one outline
-pub same_of_equal : (x y : List ℕ) → outline_cmp x y ≡ Equal → x ≡ y
-same_of_equal x y h = (bytes_decides x y).0 (texts_ties x y ∙ ap is_eq h)
+use Rattle.steno_rules.proofs.NodeLemmas.{same_of_equal}
 
 pub in_order-rising : (xs : List (List ℕ)) → AreRising (in_order xs)
 unfolding Rises
