@@ -8,13 +8,13 @@ use mathlib.Core.Logic.{dite}
 use native.Mathlib.Decide.{dec_le, ℕ_discrete}
 use Rattle.graph_rules.specs.Graphs.{Stands}
 use Rattle.dist_table.specs.declared.call.Call.{Call}
-use Rattle.dist_table.specs.Histories.{words_after_call, words_after, AreReplies, calls_by}
+use Rattle.dist_table.specs.Histories.{words_after_call, replayed_words, AreReplies, calls_by}
 
-pub words_after-push : (ws : List ℕ) (cs : List Call) (c : Call) → words_after ws (cs ++ c ∷ []) ≡ words_after_call (words_after ws cs) c
+pub words_after-push : (ws : List ℕ) (cs : List Call) (c : Call) → replayed_words ws (cs ++ c ∷ []) ≡ words_after_call (replayed_words ws cs) c
 words_after-push ws [] c = refl
 words_after-push ws (d ∷ cs) c = words_after-push (words_after_call ws d) cs c
 
-pub AreReplies-push : (ws : List ℕ) (cs : List Call) (c : Call) → AreReplies ws cs → c.reply ≡ slice_index (words_after ws cs) c.state → AreReplies ws (cs ++ c ∷ [])
+pub AreReplies-push : (ws : List ℕ) (cs : List Call) (c : Call) → AreReplies ws cs → c.reply ≡ slice_index (replayed_words ws cs) c.state → AreReplies ws (cs ++ c ∷ [])
 AreReplies-push ws [] c h e = (e, tt)
 AreReplies-push ws (d ∷ cs) c h e = (h.0, AreReplies-push (words_after_call ws d) cs c h.1 e)
 

@@ -15,7 +15,7 @@ use Rattle.atomic_table.proofs.Lists.{at_set, at_snoc}
 use Rattle.graph_rules.specs.Graphs.{Stands, Reaches, HasTarget, unreached, moved}
 use Rattle.dist_table.specs.declared.call.Call.{Call}
 use Rattle.dist_table.specs.declared.knowledge.Knowledge.{Knowledge}
-use Rattle.dist_table.specs.Histories.{call, opening_words, words_after_call, words_after, AreReplies, IsLegal, calls_by}
+use Rattle.dist_table.specs.Histories.{call, opening_words, words_after_call, replayed_words, AreReplies, IsLegal, calls_by}
 use Rattle.dist_table.specs.Tables.{PassView, LeavesWords}
 use Rattle.dist_table.specs.Rules.{HasNoFurtherCalls, first_pass, OwnsNumber, FitsHistory, HaveOwnNumbers, KeepsHistory}
 use Rattle.dist_table.specs.inside.Steps.{seeing, pass_number, reserving, staying, leaving, joining, ended, aiming, TellsCall, TellsRelax, TellsLook, TellsReserved, TellsJoined, TellsAim, TellsSpared}
@@ -456,7 +456,7 @@ ends p o ls eo el id v seen num words slots f =
       begins = subst (λ l. IsPrefix l k.history) seen fit.seen;
       own = fit.mine p.number num ∙ ap (calls_by p.number) seen;
       legal = at (λ x xs. IsLegal x xs k.history) k.legal;
-      left = at (λ x xs. words ≡ words_after (opening_words x (length xs)) k.history) (sym f.2 ∙ k.leaves);
+      left = at (λ x xs. words ≡ replayed_words (opening_words x (length xs)) k.history) (sym f.2 ∙ k.leaves);
       stand = at (λ x xs. (s : ℕ) → s < length xs → Stands x xs s (slice_index words s))
           (λ s lt. subst (λ (ws : List ℕ). Stands o ls s (slice_index ws s)) f.2 (k.stand s (subst (λ n. s < n) (sym k.count) lt)));
     }

@@ -2,12 +2,12 @@
 --     relax_call, look_call ..            the two kinds of call
 --     opening_words origin count          the words before the first call
 --     words_after_call words c            the words after one call
---     words_after words calls             the words after all the calls, one after the other
+--     replayed_words words calls             the words after all the calls, one after the other
 --     AreReplies words calls              each call replied the word as it was at its turn
 --     IsLegal origin lists calls          the same, from the opening words on
 --     calls_by pass calls                 the calls of one pass, in their order
 --     longer_history xs ys                the longer of two
---     Extends origin lists seen c now     what was seen goes on, and ends with this call
+--     ExtendsHistory origin lists seen c now     what was seen goes on, and ends with this call
 use Rattle.std.specs.Prelude.{◌≡◌, ℕ, ◌==◌, nat_lt, min, Bool, true, false, cond, List, [], ◌∷◌, ◌++◌, length, replicate, slice_index, slice_set}
 use Rattle.graph_rules.specs.Graphs.{unreached}
 use Rattle.dist_table.specs.declared.call.Call.{Call}
@@ -32,9 +32,9 @@ abbrev pub words_after_call : List ℕ → Call → List ℕ
 words_after_call words c =
     cond c.relax (slice_set words c.state (min (slice_index words c.state) c.value)) words
 
-abbrev pub words_after : List ℕ → List Call → List ℕ
-words_after words [] = words
-words_after words (c ∷ calls) = words_after (words_after_call words c) calls
+abbrev pub replayed_words : List ℕ → List Call → List ℕ
+replayed_words words [] = words
+replayed_words words (c ∷ calls) = replayed_words (words_after_call words c) calls
 
 abbrev pub AreReplies : List ℕ → List Call → Type 0
 AreReplies words [] = Unit {0}
@@ -52,7 +52,7 @@ abbrev pub longer_history : List Call → List Call → List Call
 longer_history xs ys = cond (nat_lt (length xs) (length ys)) ys xs
 
 -- calls of other passes may lie between; of the calls of the pass that made it, this one alone is new
-pub record Extends (origin : ℕ) (lists : List (List ℕ)) (seen : List Call) (c : Call) (now : List Call)
+pub record ExtendsHistory (origin : ℕ) (lists : List (List ℕ)) (seen : List Call) (c : Call) (now : List Call)
     : Type 0 where
   pub between : List Call
   pub ends : now ≡ (seen ++ between) ++ c ∷ []

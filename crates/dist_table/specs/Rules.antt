@@ -12,7 +12,7 @@ use lib.ListN.{get_elem?}
 use Rattle.graph_rules.specs.Graphs.{Stands}
 use Rattle.dist_table.specs.declared.call.Call.{Call}
 use Rattle.dist_table.specs.declared.knowledge.Knowledge.{Knowledge}
-use Rattle.dist_table.specs.Histories.{opening_words, words_after, IsLegal, calls_by}
+use Rattle.dist_table.specs.Histories.{opening_words, replayed_words, IsLegal, calls_by}
 
 abbrev pub first_pass : ℕ → List (List ℕ) → Knowledge
 first_pass origin lists = record {
@@ -59,7 +59,7 @@ pub record KeepsHistory (origin : ℕ) (lists : List (List ℕ)) (words : List �
   pub made : ℕ
   pub count : length words ≡ length lists
   pub legal : IsLegal origin lists history
-  pub leaves : words ≡ words_after (opening_words origin (length lists)) history
+  pub leaves : words ≡ replayed_words (opening_words origin (length lists)) history
   pub stand : (i : ℕ) → i < length words → Stands origin lists i (slice_index words i)
   pub fits :
       (by : ℕ) (v : Knowledge) → get_elem? views by ≡ some v → FitsHistory origin lists history made v

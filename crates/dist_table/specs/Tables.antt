@@ -12,7 +12,7 @@ use mathlib.Core.List.{IsPrefix}
 use Rattle.atomic_table.specs.Seated.{TableId}
 use Rattle.graph_rules.specs.Graphs.{Stands, Reaches, HasTarget}
 use Rattle.dist_table.specs.declared.call.Call.{Call}
-use Rattle.dist_table.specs.Histories.{opening_words, words_after, IsLegal, calls_by, longer_history, relax_call, look_call, Extends}
+use Rattle.dist_table.specs.Histories.{opening_words, replayed_words, IsLegal, calls_by, longer_history, relax_call, look_call, ExtendsHistory}
 
 pub record TableView : Type 0 where
   pub id : TableId
@@ -33,7 +33,7 @@ IsSamePass p q = (q.table ≡ p.table) × (q.number ≡ p.number)
 
 -- p made the call c, has seen the one history up to it, and became q
 abbrev pub MakesCall : PassView → Call → PassView → Type 0
-MakesCall p c q = IsSamePass p q × Extends p.table.origin p.table.lists p.seen c q.seen
+MakesCall p c q = IsSamePass p q × ExtendsHistory p.table.origin p.table.lists p.seen c q.seen
 
 abbrev pub MakesRelax : PassView → ℕ → ℕ → ℕ → PassView → Type 0
 MakesRelax p target value reply q = MakesCall p (relax_call p.number target value reply) q
@@ -59,6 +59,6 @@ pub record LeavesWords (p : PassView) (words : List ℕ) : Type 0 where
   pub begins : IsPrefix p.seen history
   pub own : calls_by p.number history ≡ calls_by p.number p.seen
   pub legal : IsLegal p.table.origin p.table.lists history
-  pub left : words ≡ words_after (opening_words p.table.origin (length p.table.lists)) history
+  pub left : words ≡ replayed_words (opening_words p.table.origin (length p.table.lists)) history
   pub stand :
       (s : ℕ) → s < length p.table.lists → Stands p.table.origin p.table.lists s (slice_index words s)

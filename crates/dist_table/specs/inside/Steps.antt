@@ -7,7 +7,7 @@ use Rattle.graph_rules.specs.Graphs.{Stands, moved}
 use Rattle.dist_table.specs.declared.call.Call.{Call}
 use Rattle.dist_table.specs.declared.knowledge.Knowledge.{Knowledge}
 use Rattle.dist_table.specs.Rules.{first_pass, HasNoFurtherCalls}
-use Rattle.dist_table.specs.Histories.{call, calls_by, IsLegal, longer_history, Extends}
+use Rattle.dist_table.specs.Histories.{call, calls_by, IsLegal, longer_history, ExtendsHistory}
 
 -- the number of a pass, 0 of one that has ended
 abbrev pub pass_number : Knowledge → ℕ
@@ -51,7 +51,7 @@ abbrev pub TellsCall : Bool → Step ℕ → Me ℕ Knowledge → ℕ → Me ℕ
 TellsCall relax s v found w =
     (w.1 ≡ v.1)
     × (w.0 ≡ seeing v.0 w.0.seen)
-    × Extends v.0.origin v.0.lists v.0.seen (call_of v.0 relax s found) w.0.seen
+    × ExtendsHistory v.0.origin v.0.lists v.0.seen (call_of v.0 relax s found) w.0.seen
     × Stands v.0.origin v.0.lists s.word found
 
 abbrev pub TellsRelax : Step ℕ → Me ℕ Knowledge → ℕ → Me ℕ Knowledge → Type 0
