@@ -3,12 +3,11 @@ use Rattle.std.proofs.Common.{ℕ, ◌≡◌, ◌∙◌, ◌⊎◌, inl, inr, Li
 use Rattle.std.specs.Io.KnownBytes.{append_known}
 use Rattle.std.proofs.lemmas.List.{append-nil}
 use Rattle.std.proofs.Math.Seq.{take-length}
-use Rattle.outside.specs.Faults.{Rose}
-use Rattle.outside.specs.Sink.{AppendsPrefix}
+use Rattle.outside.specs.Sink.{AppendsPrefix, Puts}
 use Rattle.outside.proofs.Known.{append_known-empty}
 use Rattle.report.specs.Refusals.{RefusalView, refusal_text, no_memory}
-use Rattle.report.specs.declared.putting.ReportFault.{ReportFault}
-use Rattle.report.specs.declared.putting.ReportFault.TheVariants as report
+use Rattle.outside.specs.declared.fault.OutsideFault.{OutsideFault}
+use Rattle.outside.specs.declared.fault.OutsideFault.TheVariants as report
 use Rattle.audit_top.specs.Expected.{Expected, UnlessRefused, refused}
 use Rattle.audit_top.specs.Runs.{IsBegun, OutputView}
 use Rattle.audit_top.specs.inside.Answers.{Answers, Begins, Prints, Stops}
@@ -34,17 +33,17 @@ refused-first May out answer reason refusal is stop may = subst (Answers May out
 prefix-begun : (May : Expected → Type 0) (old new : Option (List ℕ)) (result : Expected) → May result → AppendsPrefix old new result.text → Begins May old new
 prefix-begun May old new result may (n, within, added) = record { begun = take n result.text; is_begun = inr (result, may, (n, refl)); added = added }
 
-put_stops : (May : Expected → Type 0) (old new : OutputView) (result : Expected) (fault : ReportFault) → May result → AppendsPrefix old.text new.text result.text → (fault ≡ report.Failed → Rose old.faults new.faults)
-    → ((fault ≡ report.Failed → ⊥) → new.faults ≡ old.faults) → Stops May old new (stop_of (refusal_of_report fault))
-put_stops May old new result report.Failed may prefix rose steady = (prefix-begun May old.text new.text result may prefix, rose refl)
-put_stops May old new result report.Memory may prefix rose steady = (prefix-begun May old.text new.text result may prefix, steady (λ e. cc))
+put_stops : {T : Type 0} (May : Expected → Type 0) (old new : OutputView) (result : Expected) (fault : OutsideFault) → May result
+    → Puts result.text {T = T} (Err fault) old.text new.text old.faults new.faults → Stops May old new (stop_of (refusal_of_report fault))
+put_stops May old new result report.Failed may puts = (prefix-begun May old.text new.text result may puts.prefix, puts.failed refl)
+put_stops May old new result report.Memory may puts = (prefix-begun May old.text new.text result may puts.prefix, puts.steady refl)
 
 -- a text wasn't put whole
-pub put-stopped : (May : Expected → Type 0) (old new : OutputView) (result : Expected) (fault : ReportFault) (answer : Result Status Refusal) (refusal : Refusal)
-    → May result → AppendsPrefix old.text new.text result.text → (fault ≡ report.Failed → Rose old.faults new.faults) → ((fault ≡ report.Failed → ⊥) → new.faults ≡ old.faults)
+pub put-stopped : {T : Type 0} (May : Expected → Type 0) (old new : OutputView) (result : Expected) (fault : OutsideFault)
+    (answer : Result Status Refusal) (refusal : Refusal) → May result → Puts result.text {T = T} (Err fault) old.text new.text old.faults new.faults
     → answer ≡ Err refusal → refusal ≡ refusal_of_report fault → Answers May old new answer
-put-stopped May old new result fault answer refusal may prefix rose steady is by =
-    subst (Answers May old new) (sym (is ∙ ap Err by)) (put_stops May old new result fault may prefix rose steady)
+put-stopped May old new result fault answer refusal may puts is by =
+    subst (Answers May old new) (sym (is ∙ ap Err by)) (put_stops May old new result fault may puts)
 
 -- a text was put whole
 pub put-whole : (May : Expected → Type 0) (old new : OutputView) (result : Expected) (status : Status)

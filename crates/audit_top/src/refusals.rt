@@ -10,8 +10,8 @@ ghost use Rattle.audit_top.specs.inside.Endings.{EndsLine, EndsMemory, EndsStop,
 use crate::status::Status;
 use dict_files::LoadFault;
 use outline_trie::TrieFault;
-use outside::Sink;
-use report::{FaultLine, ReportFault, write_fault, write_memory};
+use outside::{OutsideFault, Sink};
+use report::{FaultLine, write_fault, write_memory};
 use std::alloc::{AllocError, Global};
 
 /// Why a run goes no further.
@@ -37,13 +37,13 @@ impl From<LoadFault> for Refusal {
     }
 }
 
-impl From<ReportFault> for Refusal {
+impl From<OutsideFault> for Refusal {
     ghost from_gives = { λ fault refusal. refusal ≡ refusal_of_report fault };
 
-    fn from(fault: ReportFault) -> Refusal {
+    fn from(fault: OutsideFault) -> Refusal {
         match fault {
-            ReportFault::Failed => Refusal::Output,
-            ReportFault::Memory => Refusal::Memory,
+            OutsideFault::Failed => Refusal::Output,
+            OutsideFault::Memory => Refusal::Memory,
         }
     }
 }
@@ -98,8 +98,8 @@ pub(crate) fn put_memory<S: Sink>(out: &mut S) -> Status
 {
     match write_memory(out) {
         Ok(()) => Status::Memory,
-        Err(ReportFault::Memory) => Status::Memory,
-        Err(ReportFault::Failed) => Status::Output,
+        Err(OutsideFault::Memory) => Status::Memory,
+        Err(OutsideFault::Failed) => Status::Output,
     }
 }
 
@@ -110,8 +110,8 @@ fn put_line<S: Sink>(alloc: Global, out: &mut S, line: &FaultLine<'_>) -> Status
 {
     match write_fault(alloc, out, line) {
         Ok(()) => line_status(line),
-        Err(ReportFault::Failed) => Status::Output,
-        Err(ReportFault::Memory) => put_memory(out),
+        Err(OutsideFault::Failed) => Status::Output,
+        Err(OutsideFault::Memory) => put_memory(out),
     }
 }
 

@@ -4,17 +4,14 @@ ghost use Rattle.std.specs.Prelude.{◌≡◌, ◌≤◌, length, OnOk, OnErr, I
 ghost use Rattle.std.specs.Io.KnownBytes.{append_known};
 ghost use Rattle.outside.specs.Faults.{Rose, Steady, is_failed};
 ghost use Rattle.outside.specs.Files.{FaultAt, Both, Extends, ExtendsByPrefix};
-ghost use Rattle.outside.specs.Sink.{AppendsPrefix};
+ghost use Rattle.outside.specs.Sink.{Puts};
 
 use crate::{Files, OutsideFault, Sink, Way};
 
 /// Puts all bytes. After a refusal a prefix of them was put, and how long it is isn't told.
 pub fn write_all<S: Sink>(sink: &mut S, bytes: &[u8]) -> Result<(), OutsideFault>
-    ensures all { OnOk result (S.text sink.new ≡ append_known (S.text sink.old) bytes.now) }
-    ensures prefix { OnErr result (AppendsPrefix (S.text sink.old) (S.text sink.new) bytes.now) }
-    ensures later { S.faults sink.old ≤ S.faults sink.new }
-    ensures failed { IsTrue (is_failed result) → Rose (S.faults sink.old) (S.faults sink.new) }
-    ensures steady { Steady (is_failed result) (S.faults sink.old) (S.faults sink.new) }
+    ensures { Puts bytes.now result (S.text sink.old) (S.text sink.new)
+        (S.faults sink.old) (S.faults sink.new) }
 {
     let mut done = 0;
     while done < bytes.len() {

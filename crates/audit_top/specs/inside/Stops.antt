@@ -1,7 +1,7 @@
 -- Why a run goes no further, as the parts of a run see it, and how a fault of a call below becomes such a reason.
 use Rattle.report.specs.Refusals.{RefusalView, not_words, too_many_nodes}
-use Rattle.report.specs.declared.putting.ReportFault.{ReportFault}
-use Rattle.report.specs.declared.putting.ReportFault.TheVariants as report
+use Rattle.outside.specs.declared.fault.OutsideFault.{OutsideFault}
+use Rattle.outside.specs.declared.fault.OutsideFault.TheVariants as report
 use Rattle.dict_files.specs.Loading.{load_refusal}
 use Rattle.dict_files.specs.declared.faults.LoadFault.{LoadFault}
 use Rattle.dict_files.specs.declared.faults.LoadFault.TheVariants as load
@@ -33,6 +33,6 @@ abbrev pub refusal_of_trie : TrieFault → Refusal
 refusal_of_trie (trie.TooManyNodes count) = of.Nodes count
 refusal_of_trie trie.Memory = of.Memory
 
-abbrev pub refusal_of_report : ReportFault → Refusal
+abbrev pub refusal_of_report : OutsideFault → Refusal
 refusal_of_report report.Failed = of.Output
 refusal_of_report report.Memory = of.Memory

@@ -15,8 +15,7 @@ returns-in_err-write_replay g c =
     let found = c.deref-3.ensures.value ∙ c.in_ok-pieces.ensures.pieces ∙ ap₂ pieces c.requires.trie (c.deref.ensures.value ∙ sym c.deref-2.ensures.value) in
     let may = replay-is stack c.args.outline.now c.deref-2.result.now c.deref-3.result.now read found in
     let p = err_from_is_err_and c.from_residual-in_err-write_replay.result c.from_residual-in_err-write_replay.ensures.1 in
-    put-stopped (IsReplay c.args.outline.now stack) _ _ (prints Clean (pieces_text stack c.deref-2.result.now c.deref-3.result.now)) _ _ p.0 may c.in_err-write_replay.ensures.prefix
-    (λ e. c.in_err-write_replay.ensures.failed (ap Err e)) (λ no. c.in_err-write_replay.ensures.steady (λ e. no cc)) p.1 p.2
+    put-stopped (IsReplay c.args.outline.now stack) _ _ (prints Clean (pieces_text stack c.deref-2.result.now c.deref-3.result.now)) _ _ p.0 may c.in_err-write_replay.ensures p.1 p.2
 
 pub returns : goal.returns
 returns g c =
@@ -24,4 +23,4 @@ returns g c =
     let read = c.in-Ok.ensures.ok ∙ ap Some (sym c.deref-2.ensures.value) in
     let found = c.deref-3.ensures.value ∙ c.in_ok-pieces.ensures.pieces ∙ ap₂ pieces c.requires.trie (c.deref.ensures.value ∙ sym c.deref-2.ensures.value) in
     let may = replay-is stack c.args.outline.now c.deref-2.result.now c.deref-3.result.now read found in
-    put-whole (IsReplay c.args.outline.now stack) _ _ (prints Clean (pieces_text stack c.deref-2.result.now c.deref-3.result.now)) _ may refl refl c.in_ok-write_replay.ensures.all (c.in_ok-write_replay.ensures.steady (λ e. cc))
+    put-whole (IsReplay c.args.outline.now stack) _ _ (prints Clean (pieces_text stack c.deref-2.result.now c.deref-3.result.now)) _ may refl refl c.in_ok-write_replay.ensures.all (c.in_ok-write_replay.ensures.steady refl)
