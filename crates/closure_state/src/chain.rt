@@ -73,6 +73,26 @@ fn least(trie: &Trie, windows: &Windows<'_>, end: u32, depth: u32, bound: u64) -
     lesser(from_bound(trie.children(end), bound), found)
 }
 
+/// The same for the ends below two rows. Mostly there are none, and nothing is looked for.
+fn least_below(
+    trie: &Trie,
+    windows: &Windows<'_>,
+    end: u32,
+    depth: u32,
+    bound: u64,
+) -> Option<(u32, u32)>
+    requires windows { windows.now ≡ trie.now }
+    requires node { IsNode trie.now end }
+    requires some { 1 ≤ depth }
+    ensures { IsLeastStroke trie.now depth (node_strokes trie.now end) bound result }
+{
+    if end == 0 {
+        None
+    } else {
+        least(trie, windows, end, depth, bound)
+    }
+}
+
 /// The first node with children along a chain, among those of so many strokes; the root where there is none.
 fn with_children(trie: &Trie, windows: &Windows<'_>, node: u32, depth: u32) -> u32
     requires windows { windows.now ≡ trie.now }
@@ -150,7 +170,7 @@ impl<'a> Chain<'a> {
         ensures step { (x : List ℕ) → IsChainOfEnds trie.now x bound self.old →
             IsChainStep trie.now x bound result self.new }
     {
-        let third = least(trie, windows, self.below, self.depth, bound);
+        let third = least_below(trie, windows, self.below, self.depth, bound);
         let found = lesser(self.top, lesser(self.low, third));
         if let Some((code, _)) = found {
             self.top = past(self.top, code);

@@ -1,7 +1,8 @@
 //! The targets by one stroke, until they are asked for.
-ghost use Rattle.std.specs.Prelude.{◌≡◌, ◌≤◌, ◌↔◌, ℕ, List, [], length, Some, IsTrue};
+ghost use Rattle.std.specs.Prelude.{◌≡◌, ◌↔◌, ℕ, List, [], Some, IsTrue};
 ghost use Rattle.steno_rules.specs.States.{later_mark, new_mark};
 ghost use Rattle.steno_rules.specs.WordSets.{IsWordSet, words_in};
+ghost use Rattle.outline_trie.specs.Tries.{IsNode, node_strokes};
 ghost use Rattle.closure_state.specs.NodeStates.{IsNodeState};
 ghost use Rattle.closure_state.specs.inside.Steps.{IsStepOf};
 ghost use Rattle.closure_state.specs.inside.Waits.{AreTargetsBy, IsTaken, waits, some_listed, listed_if};
@@ -23,15 +24,15 @@ pub(crate) struct Waiting {
     pub(crate) marked: bool,
 }
 
-/// The mark one stroke later, None where it doesn't lie in a window of so many strokes any more.
-fn later(mark: Option<u8>, depth: u32) -> Option<Option<u8>>
-    requires { depth ≤ 64 }
-    ensures { (u : List ℕ) → length u ≡ depth → some_listed result ≡ later_mark mark u }
+/// The mark one stroke later, None where it doesn't lie in the window any more.
+fn later(trie: &Trie, mark: Option<u8>, window: u32) -> Option<Option<u8>>
+    requires { IsNode trie.now window }
+    ensures { some_listed result ≡ later_mark mark (node_strokes trie.now window) }
 {
     match mark {
         None => Some(None),
         Some(strokes) => {
-            if u32::from(strokes) + 1 < depth {
+            if u32::from(strokes) + 1 < trie.depth(window) {
                 Some(Some(strokes + 1))
             } else {
                 None
@@ -114,7 +115,7 @@ pub(crate) fn waiting_of(trie: &Trie, words: &WordSet, state: State, step: Step)
     };
     let flags = words.flags(word);
     let window = step.window;
-    let later = later(state.mark, trie.depth(window));
+    let later = later(trie, state.mark, window);
     let stays = later.is_some();
     Waiting {
         window,

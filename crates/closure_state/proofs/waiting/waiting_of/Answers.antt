@@ -11,28 +11,31 @@ use Rattle.closure_state.proofs.waiting.waiting_of.Goals as goal
 
 pub returns-in_default : goal.returns-in_default
 returns-in_default c =
-    let E = c.args.trie.now in
-    let W = words_in E c.args.words.now in record {
-      targets = ap (map (state_at E)) c.none.ensures ∙ sym (no_child E W (state_at E c.args.state) c.args.state.word c.args.step.code c.requires.words.are_words refl (sym c.requires.step.1.word ∙ c.in_default.is));
-      each = subst (AllByRecursion (IsNodeState E W)) (sym c.none.ensures) tt;
+    let entries = c.args.trie.now in
+    let words = words_in entries c.args.words.now in record {
+      targets = ap (map (state_at entries)) c.none.ensures ∙ sym (no_child entries words (state_at entries c.args.state) c.args.state.word c.args.step.code c.requires.words.are_words refl (sym c.requires.step.1.word ∙ c.in_default.is));
+      each = subst (AllByRecursion (IsNodeState entries words)) (sym c.none.ensures) tt;
     }
+
+pub later-later-requires : goal.later-later-requires
+later-later-requires c = c.requires.step.1.window.inside
 
 pub returns : goal.returns
 returns c =
-    let E = c.args.trie.now in
-    let W = words_in E c.args.words.now in
+    let entries = c.args.trie.now in
+    let words = words_in entries c.args.words.now in
     let s = c.args.state in
     let code = c.args.step.code in
     let w = c.args.step.window in
     let y = c.in-Some.word in
     let opens = c.flags-flags.result.opens in
     let is_word = c.flags-flags.result.is_word in
-    let found : child_of E s.word code ≡ Some y = sym c.requires.step.1.word ∙ c.in-Some.is in
-    let inside : IsNode E y = child_inside E s.word code y found in
-    let targets = waiting_is E W (state_at E s) code w y opens is_word c.later-later.result c.is_marked.result
-    c.requires.step.1.window.is (child_ends E s.word code y found)
-    (c.flags-flags.ensures.opens ∙ word_open_flag E c.args.words.now y c.requires.words inside) (c.flags-flags.ensures.word ∙ is_word_flag E c.args.words.now y inside)
-    (c.later-later.ensures (node_strokes E w) (sym c.depth.ensures.depth))
-    (c.is_marked.ensures (node_strokes E w) (root_or_not E w c.requires.step.1.window.inside)) in
-    let each = waiting_states E W (state_at E s) code w y opens is_word c.later-later.result c.is_marked.result c.requires.state.state c.requires.step.1.window.inside inside targets in
-    subst (AreTargetsBy E W s code) (ap₂ (λ stays mark. made opens is_word w y stays mark c.is_marked.result) (sym c.is_some-stays.ensures) (sym c.unwrap_or.ensures)) (record { targets = targets; each = each })
+    let found : child_of entries s.word code ≡ Some y = sym c.requires.step.1.word ∙ c.in-Some.is in
+    let inside : IsNode entries y = child_inside entries s.word code y found in
+    let targets = waiting_is entries words (state_at entries s) code w y opens is_word c.later-later.result c.is_marked.result
+    c.requires.step.1.window.is (child_ends entries s.word code y found)
+    (c.flags-flags.ensures.opens ∙ word_open_flag entries c.args.words.now y c.requires.words inside) (c.flags-flags.ensures.word ∙ is_word_flag entries c.args.words.now y inside)
+    c.later-later.ensures
+    (c.is_marked.ensures (node_strokes entries w) (root_or_not entries w c.requires.step.1.window.inside)) in
+    let each = waiting_states entries words (state_at entries s) code w y opens is_word c.later-later.result c.is_marked.result c.requires.state.state c.requires.step.1.window.inside inside targets in
+    subst (AreTargetsBy entries words s code) (ap₂ (λ stays mark. made opens is_word w y stays mark c.is_marked.result) (sym c.is_some-stays.ensures) (sym c.unwrap_or.ensures)) (record { targets = targets; each = each })
