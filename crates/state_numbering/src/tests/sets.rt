@@ -7,12 +7,12 @@ use std::process::Abort;
 
 /// Each number with a state is that of its state. Answers how many have one.
 fn check_numbers(rt: &impl Abort, numbering: &Numbering<'_>) -> u64 {
-    let mut found = 0;
+    let mut found: u64 = 0;
     for number in 0..numbering.count() {
         match numbering.state(number) {
             Some(state) => {
                 assert_eq!(rt; numbering.number(state), number);
-                found += 1;
+                found = found.saturating_add(1);
             }
             None => {
                 assert!(rt; numbering.stroke_into(number).is_none());
