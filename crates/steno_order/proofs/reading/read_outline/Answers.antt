@@ -1,5 +1,7 @@
-use Rattle.std.proofs.Common.{◌+◌, ◌≤◌, subst, sym, ap, ◌∙◌}
-use Rattle.std.specs.Prelude.{Some, option_map}
+use Rattle.std.proofs.Common.{◌+◌, ◌≤◌, subst, sym, ap, ◌∙◌, length}
+use Rattle.std.specs.Prelude.{Some, IfErr, option_map}
+use Rattle.std.proofs.lemmas.Result.{err_from_is_err_and}
+use Rattle.steno_order.specs.Faults.{IsOutlineCause}
 use Rattle.steno_rules.specs.Outlines.{IsOutline, most_strokes}
 use Rattle.steno_order.proofs.ListLaws.{spelt_strokes-IsOutline}
 use Rattle.steno_order.proofs.StrokesRead.{IsHeld, all_read, none_next, one_held, less_left}
@@ -33,3 +35,10 @@ returns-clause-is_outline c =
     let h = subst (λ o. IsHeld c.args.text.now c.loop-rest.strokes c.loop-rest.parts (option_map (λ rest. rest.now) o)) c.in_default.is c.loop-rest.invariant in
     let outline = spelt_strokes-IsOutline c.args.text.now h.strokes (all_read c.args.text.now h.strokes h.read) (subst (λ n. n ≤ most_strokes) (sym h.count) c.if-parts-gt-MAX.false) in
     subst IsOutline (sym (h.held c.if-parts-gt-MAX.false) ∙ sym c.in_ok-from_strokes.ensures) outline
+
+pub returns-in_err-from_strokes-clause-err : goal.returns-in_err-from_strokes-clause-err
+returns-in_err-from_strokes-clause-err c =
+    let h = subst (λ o. IsHeld c.args.text.now c.loop-rest.strokes c.loop-rest.parts (option_map (λ rest. rest.now) o)) c.in_default.is c.loop-rest.invariant in
+    let p = err_from_is_err_and c.from_residual.result c.from_residual.ensures.1 in
+    subst (λ r. IfErr r (IsOutlineCause c.args.text.now)) (sym p.1) (subst (IsOutlineCause c.args.text.now) (sym p.2)
+    (h.strokes, all_read c.args.text.now h.strokes h.read, subst (λ n. n ≤ most_strokes) (sym h.count) c.if-parts-gt-MAX.false))
