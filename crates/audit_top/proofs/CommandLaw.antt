@@ -6,7 +6,7 @@ use Rattle.std.proofs.lemmas.Bool.Decides.{nat_tests}
 use Rattle.std.proofs.lemmas.Slice.Eq.{bytes_eq-Decides}
 use Rattle.text_rules.specs.Decimals.{decimal_value}
 use Rattle.text_rules.proofs.Numbers.{decimal-number, number-decimal}
-use Rattle.audit_top.specs.declared.commands.TheConstants.{MAX_GENERATED}
+use Rattle.dict_json.specs.Generated.{most_generated}
 use Rattle.audit_top.specs.Commands.{CommandView, IsCommand, arguments_of, command_of, generate, generate_of, if_valid, is_valid, replay, replay_of}
 
 valid_is : (c d : CommandView) → if_valid c ≡ Some d → (c ≡ d) × (is_valid d ≡ true)
@@ -25,15 +25,15 @@ replay_written (outline ∷ dicts) c h = let v = valid_is (replay outline dicts)
 generate_written : (args : List (List ℕ)) (c : CommandView) → generate_of args ≡ Some c → IsCommand (codes "generate" ∷ args) c
 generate_written [] c h = absurd (true≢false cc)
 generate_written (start ∷ []) c h = absurd (true≢false cc)
-generate_written (start ∷ count ∷ []) c h = by (decimal_value (2 ^ 64 - 1) start) (decimal_value MAX_GENERATED count) refl refl h
+generate_written (start ∷ count ∷ []) c h = by (decimal_value (2 ^ 64 - 1) start) (decimal_value most_generated count) refl refl h
   where
-    by : (s n : Option ℕ) → decimal_value (2 ^ 64 - 1) start ≡ s → decimal_value MAX_GENERATED count ≡ n → option_and_then (λ s. option_and_then (λ n. if_valid (generate s n)) n) s ≡ Some c → IsCommand (codes "generate" ∷ start ∷ count ∷ []) c
+    by : (s n : Option ℕ) → decimal_value (2 ^ 64 - 1) start ≡ s → decimal_value most_generated count ≡ n → option_and_then (λ s. option_and_then (λ n. if_valid (generate s n)) n) s ≡ Some c → IsCommand (codes "generate" ∷ start ∷ count ∷ []) c
     by None n is_s is_n h = absurd (true≢false cc)
     by (Some s) None is_s is_n h = absurd (true≢false cc)
     by (Some s) (Some n) is_s is_n h =
         let v = valid_is (generate s n) c h in
         let read_s = number-decimal (2 ^ 64 - 1) s start (omega arith) is_s in
-        let read_n = number-decimal MAX_GENERATED n count (omega arith) is_n in
+        let read_n = number-decimal most_generated n count (omega arith) is_n in
         (ap₂ (λ a b. codes "generate" ∷ a ∷ b ∷ []) read_s.0 read_n.0 ∙ ap arguments_of v.0, v.1)
 generate_written (start ∷ count ∷ more ∷ args) c h = absurd (true≢false cc)
 
@@ -58,7 +58,7 @@ if_valid-is c valid = rw valid refl
 start_few : (start count : ℕ) → is_valid (generate start count) ≡ true → start < 2 ^ 64
 start_few start count valid = grind (arith, nat_tests)
 
-count_few : (start count : ℕ) → is_valid (generate start count) ≡ true → count ≤ MAX_GENERATED
+count_few : (start count : ℕ) → is_valid (generate start count) ≡ true → count ≤ most_generated
 count_few start count valid = grind (arith, nat_tests)
 
 command_is : (c : CommandView) → is_valid c ≡ true → command_of (arguments_of c) ≡ Some c
@@ -66,7 +66,7 @@ command_is (replay outline dicts) valid = if_valid-is (replay outline dicts) val
 command_is (generate start count) valid =
     let few_s = start_few start count valid in
     let few_n = count_few start count valid in
-    ap₂ (λ s n. option_and_then (λ s. option_and_then (λ n. if_valid (generate s n)) n) s) (decimal-number (2 ^ 64 - 1) start (omega arith) (omega arith)) (decimal-number MAX_GENERATED count few_n (omega arith))
+    ap₂ (λ s n. option_and_then (λ s. option_and_then (λ n. if_valid (generate s n)) n) s) (decimal-number (2 ^ 64 - 1) start (omega arith) (omega arith)) (decimal-number most_generated count few_n (omega arith))
     ∙ if_valid-is (generate start count) valid
 
 pub written-command : (args : List (List ℕ)) (c : CommandView) → IsCommand args c → command_of args ≡ Some c

@@ -11,7 +11,7 @@ use Rattle.text_rules.specs.Decimals.{decimal_value}
 use Rattle.steno_order.specs.Reading.{spelt_strokes}
 use Rattle.dict_stack.specs.Stacks.{most_dictionaries}
 use Rattle.dict_files.specs.DictFiles.{match_prefix}
-use Rattle.audit_top.specs.declared.commands.TheConstants.{MAX_GENERATED}
+use Rattle.dict_json.specs.Generated.{most_generated}
 use Rattle.audit_top.specs.declared.commands.Command.{Command}
 use Rattle.audit_top.specs.declared.commands.Command.TheVariants as of
 
@@ -31,7 +31,7 @@ is_spelt text = is_some (spelt_strokes text)
 -- what the parts of a command have to be
 abbrev pub is_valid : CommandView → Bool
 is_valid (replay outline dicts) = is_spelt outline && are_files dicts
-is_valid (generate start count) = nat_lt start (2 ^ 64) && nat_le count MAX_GENERATED
+is_valid (generate start count) = nat_lt start (2 ^ 64) && nat_le count most_generated
 
 -- the arguments of a command
 abbrev pub arguments_of : CommandView → List (List ℕ)
@@ -55,7 +55,7 @@ replay_of [] = None
 -- of the two numbers after `generate`
 abbrev pub generate_of : List (List ℕ) → Option CommandView
 generate_of (start ∷ count ∷ []) =
-    option_and_then (λ s. option_and_then (λ n. if_valid (generate s n)) (decimal_value MAX_GENERATED count))
+    option_and_then (λ s. option_and_then (λ n. if_valid (generate s n)) (decimal_value most_generated count))
     (decimal_value (2 ^ 64 - 1) start)
 generate_of args = None
 

@@ -8,6 +8,7 @@ ghost use Rattle.audit_top.specs.Commands.{are_files, command_of, command_view, 
 
 use crate::numbers::read_number;
 use dict_files::names_file;
+use dict_json::MAX_GENERATED;
 use steno_order::is_readable;
 
 /// What is asked of the program, borrowed from the arguments.
@@ -24,9 +25,6 @@ pub enum Command<'a> {
         count: u32,
     },
 }
-
-/// The most entries that may be asked of the generator.
-pub const MAX_GENERATED: u64 = 100_000;
 
 /// Whether each of the arguments names a file.
 fn all_name_files(args: &[String]) -> bool
@@ -70,7 +68,7 @@ fn generate(args: &[String]) -> Option<Command<'_>>
         return None;
     };
     let start = read_number(start.as_str(), u64::MAX)?;
-    let count = read_number(count.as_str(), MAX_GENERATED)?;
+    let count = read_number(count.as_str(), u64::from(MAX_GENERATED))?;
     Some(Command::Generate {
         start,
         count: count as u32,

@@ -3,7 +3,7 @@
 ghost use Rattle.std.specs.Prelude.{◌≡◌, ◌≤◌};
 ghost use Rattle.audit_top.specs.Expected.{IsGenerated};
 ghost use Rattle.audit_top.specs.Runs.{output};
-ghost use Rattle.audit_top.specs.declared.commands.TheConstants.{MAX_GENERATED};
+ghost use Rattle.dict_json.specs.Generated.{most_generated};
 ghost use Rattle.audit_top.specs.inside.Answers.{Answers};
 
 use crate::refusals::Refusal;
@@ -19,7 +19,7 @@ pub(crate) fn generate<S: Sink>(
     count: u32,
     out: &mut S,
 ) -> Result<Status, Refusal>
-    requires { count ≤ MAX_GENERATED }
+    requires { count ≤ most_generated }
     ensures { let before = output (S.text out.old) (S.faults out.old) in
         let after = output (S.text out.new) (S.faults out.new) in
         Answers (IsGenerated start count) before after result }

@@ -17,7 +17,7 @@ mod replay;
 mod status;
 mod top;
 
-pub use commands::{Command, MAX_GENERATED, read_words};
+pub use commands::{Command, read_words};
 pub use laws::{command_arguments, expected_results};
 pub use program::run_program;
 pub use status::Status;

@@ -5,6 +5,9 @@
 //! every command that works on dictionaries.
 #![tactic(auto)]
 
+ghost use Rattle.std.specs.Prelude.{◌≡◌};
+ghost use Rattle.dict_files.specs.declared.loading.TheConstants.{MAX_BYTES};
+
 mod faults;
 mod loading;
 mod names;
@@ -12,3 +15,8 @@ mod names;
 pub use faults::LoadFault;
 pub use loading::{MAX_BYTES, read_stack};
 pub use names::{file_name, names_file, supplies_words};
+
+/// The limit on the bytes of a dictionary's file.
+pub fn limits()
+    ensures { MAX_BYTES ≡ 67108864 }
+{}

@@ -12,6 +12,11 @@
 //! the shorter list. A node takes at most 12 bytes.
 #![tactic(auto)]
 
+ghost use Rattle.std.specs.Prelude.{◌≡◌};
+ghost use Rattle.graph_rules.specs.Graphs.{most_numbers};
+ghost use Rattle.state_numbering.specs.Causes.{most_states};
+ghost use Rattle.state_numbering.specs.declared.count.TheConstants.{MAX_STATES};
+
 mod blocks;
 mod count;
 mod fault;
@@ -27,3 +32,8 @@ pub use count::MAX_STATES;
 pub use fault::NumberFault;
 pub use graph::ClosureGraph;
 pub use numbering::Numbering;
+
+/// The limit on numbers of states, which is that of a graph that is searched.
+pub fn limits()
+    ensures { (MAX_STATES ≡ most_states) × (most_states ≡ most_numbers) }
+{}
