@@ -1,5 +1,5 @@
 -- What each refusal of reading says.
---     IsDictCause outcome fault    the fault is the outcome; want of memory may come at any place
+--     IsDictCause outcome fault    the fault is the outcome; memory may run out at any place
 use Rattle.std.specs.Prelude.{◌≡◌}
 use Rattle.dict_json.specs.Outcomes.{Outcome, not_json, not_object, not_text, too_long}
 use Rattle.dict_json.specs.declared.faults.DictFault.{DictFault}

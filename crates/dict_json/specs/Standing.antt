@@ -11,6 +11,7 @@ use Rattle.serde_json.specs.Data.{Members, object}
 use Rattle.steno_order.specs.Reading.{spelt_strokes}
 use Rattle.dict_json.specs.Reading.{Keyed, keyed, members_of, reading}
 use Rattle.dict_json.specs.Dictionaries.{DictionaryView, Entry, entry_outlines}
+use Rattle.dict_json.specs.Outcomes.{dictionary, dictionary_outcome}
 
 -- the keys with their texts, of the members whose values are texts
 abbrev pub keys_with_texts : Members → List Keyed
@@ -27,6 +28,10 @@ pub record IsStandingKey (pairs : List Keyed) (entry : Entry) (p : Keyed) : Type
 pub record KeepsGreatest (pairs : List Keyed) (d : DictionaryView) : Type 0 where
   pub stands : (entry : Entry) → Contains d.entries entry → (p : Keyed) × IsStandingKey pairs entry p
   pub each : (p : Keyed) (outline : List ℕ) → Contains pairs p → spelt_strokes p.key ≡ Some outline → Contains (entry_outlines d.entries) outline
+
+-- the dictionary of these bytes
+abbrev pub IsReadAs : List ℕ → DictionaryView → Type 0
+IsReadAs bytes d = dictionary_outcome bytes ≡ dictionary d
 
 -- the bytes are an object, and the entries are what its greatest keys say
 abbrev pub IsOfObject : List ℕ → DictionaryView → Type 0

@@ -3,7 +3,7 @@
 ghost use Rattle.std.specs.Prelude.{◌≡◌, ◌<◌, ◌≤◌, ◌∷◌, ◌++◌, ◌^◌, [], List, length, string_bytes, IfOk, OnOk, Some};
 ghost use Rattle.std.specs.Option.{option_or};
 ghost use Rattle.dict_json.specs.Reading.{Keyed};
-ghost use Rattle.dict_json.specs.inside.Walks.{IsWalkedOn, walked, with_entry, with_skipped, with_too_long};
+ghost use Rattle.dict_json.specs.inside.Walks.{AddsKey, walked, with_entry, with_skipped, with_too_long};
 
 use crate::dictionaries::DictEntry;
 use crate::texts::Text;
@@ -46,7 +46,7 @@ impl Keys {
     /// Adds a key with its text, both of which are moved.
     pub(crate) fn add(&mut self, alloc: Global, key: String, text: String) -> Result<(), AllocError>
         requires { length (string_bytes key) < 2 ^ 32 }
-        ensures { OnOk result (IsWalkedOn self.old (string_bytes key) (string_bytes text) self.new) }
+        ensures { OnOk result (AddsKey self.old (string_bytes key) (string_bytes text) self.new) }
     {
         match read_outline(alloc, key.as_str()) {
             Ok(outline) => self.add_entry(outline, text),

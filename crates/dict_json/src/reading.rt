@@ -69,7 +69,7 @@ fn read_object(alloc: Global, map: Map<String, Value>) -> Result<Dictionary, Dic
 /// The dictionary of a file's bytes.
 ///
 /// Refused where the bytes have no reading by `serde_json`; where the value is no object; where some value is no text; and
-/// where some key has more than [`Outline::MAX`](stroke::Outline::MAX) parts, all readable. Of the causes that hold the first one in this order is told, and of
+/// where some key has more than [`Outline::MAX`](stroke::Outline::MAX) parts, all readable. Of the causes that hold the first one in this order is returned, and of
 /// keys the first by bytes. The cost is that of reading the JSON and of sorting the entries; each text is kept once.
 pub fn read_dictionary(alloc: Global, bytes: &[u8]) -> Result<Dictionary, DictFault>
     requires { length bytes.now < 2 ^ 32 }

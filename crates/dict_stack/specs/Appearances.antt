@@ -10,6 +10,7 @@ with_new found x = if list_any (λ y. x == y) found then found else found ++ x �
 abbrev pub first_appearances : List ℕ → List ℕ
 first_appearances xs = fold with_new [] xs
 
+-- the different strokes of all outlines
 abbrev pub strokes_of_all : List (List ℕ) → List ℕ
 strokes_of_all outlines = first_appearances (concat outlines)
 

@@ -64,7 +64,7 @@ impl Stack {
     ) -> Result<Stack, StackFault>
         requires few { length dictionaries.items ≤ most_dictionaries }
         requires each { length word_files.items ≡ length dictionaries.items }
-        ensures stack { IfOk result (λ stack. stack ≡ stack_of dictionaries.items word_files.items) }
+        ensures stack { IfOk result (λ s. s ≡ stack_of dictionaries.items word_files.items) }
         ensures few_entries { IfOk result (λ _. length (all_outlines dictionaries.items) ≤ most_entries) }
         ensures err { IfErr result (IsStackCause (all_outlines dictionaries.items)) }
     {

@@ -1,7 +1,7 @@
 -- What each refusal of a reading call says of the text.
 --     IsStrokesCause text fault    why the text isn't read as strokes
 --     IsOutlineCause text fault    why the text isn't read as an outline
--- Want of memory says nothing of it.
+-- That memory runs out says nothing of it.
 use Rattle.std.specs.Prelude.{ℕ, ◌<◌, ◌≡◌, List, Some, length}
 use Rattle.steno_rules.specs.Outlines.{most_strokes}
 use Rattle.steno_order.specs.declared.faults.StrokesFault.{StrokesFault}

@@ -1,6 +1,6 @@
 -- What a walk over keys with their texts has collected.
 --     walked pairs                     what it has collected after these
---     IsWalkedOn old key text new      what one more key with its text makes of what was collected
+--     AddsKey old key text new         what one more key with its text makes of what was collected
 use Rattle.std.specs.Prelude.{ℕ, ◌≡◌, List, [], ◌∷◌, ◌++◌, not, filter, find, length, Option, Some, option_map}
 use Rattle.std.specs.Option.{option_or}
 use Rattle.steno_order.specs.Spelling.{parts_of}
@@ -35,5 +35,5 @@ walked pairs = record {
 }
 
 -- whatever keys were walked over, this is one more
-abbrev pub IsWalkedOn : KeysView → List ℕ → List ℕ → KeysView → Type 0
-IsWalkedOn old key text new = (pairs : List Keyed) → old ≡ walked pairs → new ≡ walked (pairs ++ record { key = key; text = text } ∷ [])
+abbrev pub AddsKey : KeysView → List ℕ → List ℕ → KeysView → Type 0
+AddsKey old key text new = (pairs : List Keyed) → old ≡ walked pairs → new ≡ walked (pairs ++ record { key = key; text = text } ∷ [])
