@@ -1,10 +1,8 @@
 -- Blocks of numbers.
-use Rattle.std.proofs.Common.{◌≡◌, ℕ, zero, ◌+◌, ◌-◌, ◌*◌, ◌/◌, ◌<◌, ◌≤◌, List, [], ◌∷◌, ◌++◌, length, get_or, refl, sym, ap, subst, ◌∙◌, arith, inl, inr}
-use Rattle.std.proofs.lemmas.Bool.{cases_lt}
-use Rattle.std.proofs.lemmas.List.{length_push, get_or_push, get_or_append_left}
-use Rattle.std.proofs.Math.Nat.{div-mul-le_self, le-div_iff_mul-le}
+use Rattle.std.proofs.Common.{ℕ, ◌*◌, ◌/◌, ◌≤◌, List, arith}
+use Rattle.std.proofs.Math.Nat.{div-mul-le_self}
 use Rattle.state_numbering.specs.declared.part.Part.{Part}
-use Rattle.state_numbering.specs.inside.Blocks.{starts_at, AreBlockStarts, BeginsBy}
+use Rattle.state_numbering.specs.inside.Blocks.{BeginsBy}
 
 -- A part that begins at or before a number begins at or before a later one.
 pub begun_later : (parts : List Part) (number later node : ℕ) → BeginsBy parts number node → number ≤ later → BeginsBy parts later node

@@ -1,15 +1,14 @@
 -- From a number's part, lengths and mark to its state.
-use Rattle.std.proofs.Common.{◌≡◌, ◌≢◌, ℕ, ◌+◌, ◌-◌, ◌*◌, ◌<◌, ◌≤◌, max, List, [], ◌∷◌, ◌++◌, length, take, drop, get_or, refl, sym, ap, subst, ◌∙◌, arith, Bool, true, false, true≢false, inl, inr, ◌⊎◌, Option, Some, None, is_some, Contains, IfSome, nat_le, take-append-drop}
-use Rattle.std.specs.Prelude.{slice_index_or, MatchOption}
+use Rattle.std.proofs.Common.{◌≡◌, ℕ, ◌+◌, ◌-◌, ◌≤◌, max, List, [], length, take, drop, refl, sym, ap, subst, ◌∙◌, arith, true, false, true≢false, inl, inr, Option, Some, None, is_some, Contains, nat_le, take-append-drop}
+use Rattle.std.specs.Prelude.{MatchOption}
 use Rattle.std.proofs.lemmas.Bool.Decides.{nat_tests}
-use Rattle.std.proofs.lemmas.List.{length-drop, get_or_default, get_or-map}
-use Rattle.steno_rules.specs.Outlines.{AreWords, entry_number, outline_of}
+use Rattle.std.proofs.lemmas.List.{length-drop, get_or_default}
+use Rattle.steno_rules.specs.Outlines.{AreWords, entry_number}
 use Rattle.steno_rules.specs.Nodes.{nodes}
 use Rattle.steno_rules.specs.Windows.{is_prefix}
 use Rattle.steno_rules.specs.States as states
 use Rattle.steno_rules.specs.States.{is_open, state_of, IsState}
 use Rattle.steno_rules.specs.StateNumbers.{part_start, number_count, number_within, longer, state_number, state_of_number}
-use Rattle.steno_rules.specs.WordSets.{WordFlags, IsWordSet, words_in}
 use Rattle.steno_rules.proofs.Numbers.{entry_number-Some}
 use Rattle.steno_rules.proofs.NodeLemmas.{nodes-Contains}
 use Rattle.steno_rules.proofs.Words.{is_prefix-open}
@@ -19,7 +18,7 @@ use Rattle.closure_laws.proofs.NumberStateLemmas.{state_of_number-is, state_of_n
 use Rattle.outline_trie.specs.Tries.{IsNode, node_strokes, suffix_of}
 use Rattle.outline_trie.proofs.LookLemmas.{node_test, number_there}
 use Rattle.closure_state.specs.declared.state.State.{State}
-use Rattle.closure_state.specs.NodeStates.{state_at, IsNodeState}
+use Rattle.closure_state.specs.NodeStates.{state_at}
 use Rattle.state_numbering.specs.declared.part.Part.{Part}
 use Rattle.state_numbering.specs.declared.offset.Lengths.{Lengths}
 use Rattle.state_numbering.specs.inside.Offsets.{HasOffset, IsMarked}
@@ -39,18 +38,21 @@ test_le : (a b : ℕ) → a ≤ b → nat_le a b ≡ true
 test_le a b h = grind (arith, nat_tests)
 
 -- the node of a node's last strokes
-suffix_at : (entries : List (List ℕ)) (node len : ℕ) → len ≤ length (node_strokes entries node) → suffix_of entries node len ≡ entry_number (nodes entries) (end_of (node_strokes entries node) len)
+suffix_at : (entries : List (List ℕ)) (node len : ℕ) → len ≤ length (node_strokes entries node) →
+    suffix_of entries node len ≡ entry_number (nodes entries) (end_of (node_strokes entries node) len)
 suffix_at entries node len short = rw (test_le len (length (node_strokes entries node)) short) refl
 
 -- The last strokes of a node that are all of them are the node.
-pub suffix_whole : (entries : List (List ℕ)) (node len : ℕ) → IsNode entries node → len ≡ length (node_strokes entries node) → Some node ≡ suffix_of entries node len
+pub suffix_whole : (entries : List (List ℕ)) (node len : ℕ) → IsNode entries node → len ≡ length (node_strokes entries node) →
+    Some node ≡ suffix_of entries node len
 suffix_whole entries node len inside all =
     let z : List ℕ = node_strokes entries node in
     let none : length z - len ≡ 0 = omega (arith, all) in
     sym (suffix_at entries node len (omega (arith, all)) ∙ number_there entries (end_of z len) node inside (sym (ap (λ k. drop k z) none)))
 
 -- A node that was found is one.
-pub suffix_inside : (entries : List (List ℕ)) (node len found : ℕ) → len ≤ length (node_strokes entries node) → Some found ≡ suffix_of entries node len → IsNode entries found
+pub suffix_inside : (entries : List (List ℕ)) (node len found : ℕ) → len ≤ length (node_strokes entries node) →
+    Some found ≡ suffix_of entries node len → IsNode entries found
 suffix_inside entries node len found short is = (entry_number-Some (nodes entries) (end_of (node_strokes entries node) len) found (sym (is ∙ suffix_at entries node len short))).0
 
 -- ---- what a number stands for
@@ -71,7 +73,8 @@ whole_end : (z : List ℕ) (len : ℕ) → len ≡ length z → end_of z len ≡
 whole_end z len all = let none : length z - len ≡ 0 = omega (arith, all) in ap (λ k. drop k z) none
 
 -- the longer of two ends of which one is the whole list
-longer_end : (z : List ℕ) (window word : ℕ) (mark : Option ℕ) → max window word ≡ length z → longer (state_of (end_of z window) (end_of z word) mark) ≡ z
+longer_end : (z : List ℕ) (window word : ℕ) (mark : Option ℕ) → max window word ≡ length z →
+    longer (state_of (end_of z window) (end_of z word) mark) ≡ z
 longer_end z window word mark long =
     let wide = length-end z window (omega (arith, long)) in
     let deep = length-end z word (omega (arith, long)) in
@@ -80,7 +83,8 @@ longer_end z window word mark long =
       | inr h ↦ h.1 ∙ whole_end z word (omega (arith, h.0, wide, deep, long))
     ]
 
-pub candidate_is : (entries : List (List ℕ)) (number node depth offset : ℕ) (lengths : Lengths) → IsInPart entries number node → depth ≡ length (node_strokes entries node) → number ≡ part_start (nodes entries) node + offset → HasOffset depth offset lengths →
+pub candidate_is : (entries : List (List ℕ)) (number node depth offset : ℕ) (lengths : Lengths) → IsInPart entries number node →
+    depth ≡ length (node_strokes entries node) → number ≡ part_start (nodes entries) node + offset → HasOffset depth offset lengths →
     IsCandidate entries number (candidate entries node lengths)
 candidate_is entries number node depth offset l part depth_is offset_is has =
     let z : List ℕ = node_strokes entries node in
@@ -99,7 +103,8 @@ candidate_is entries number node depth offset l part depth_is offset_is has =
     }
 
 -- What was found of a number.
-pub found_candidate : (parts entries : List (List ℕ)) (number node : ℕ) (part : Part) (lengths : Lengths) → parts ≡ entries → IsInPart parts number node → IsNodePart parts node part → HasOffset part.depth (number - part.start) lengths →
+pub found_candidate : (parts entries : List (List ℕ)) (number node : ℕ) (part : Part) (lengths : Lengths) → parts ≡ entries →
+    IsInPart parts number node → IsNodePart parts node part → HasOffset part.depth (number - part.start) lengths →
     IsCandidate entries number (candidate entries node lengths) × (max lengths.window lengths.word ≡ length (node_strokes entries node))
 found_candidate parts entries number node part lengths same inside is has =
     let inside' : IsInPart entries number node = subst (λ es. IsInPart es number node) same inside in
@@ -111,13 +116,15 @@ found_candidate parts entries number node part lengths same inside is has =
 -- ---- the answers
 
 -- the state of the number, if there is one, is the candidate
-only_candidate : (entries words : List (List ℕ)) (number : ℕ) (t s : states.State) → AreWords entries words → IsCandidate entries number t → state_of_number entries words number ≡ Some s → IsState entries words t
+only_candidate : (entries words : List (List ℕ)) (number : ℕ) (t s : states.State) → AreWords entries words → IsCandidate entries number t →
+    state_of_number entries words number ≡ Some s → IsState entries words t
 only_candidate entries words number t s are is found =
     let at = state_of_number-is entries words number s found in
     subst (IsState entries words) (shaped-same entries s t (shape_of_state entries words s are at.0) is.shaped (at.1 ∙ sym is.number_is)) at.0
 
 -- Where the candidate is no state none has the number.
-pub no_state : (entries words : List (List ℕ)) (number : ℕ) (t : states.State) → AreWords entries words → IsCandidate entries number t → (IsState entries words t → ⊥) → state_of_number entries words number ≡ None
+pub no_state : (entries words : List (List ℕ)) (number : ℕ) (t : states.State) → AreWords entries words → IsCandidate entries number t →
+    (IsState entries words t → ⊥) → state_of_number entries words number ≡ None
 no_state entries words number t are is fails = by (state_of_number entries words number) refl
   where
     by : (o : Option states.State) → state_of_number entries words number ≡ o → o ≡ None
@@ -125,11 +132,14 @@ no_state entries words number t are is fails = by (state_of_number entries words
     by (Some s) e = absurd (fails (only_candidate entries words number t s are is e))
 
 -- The answer of a number without a state.
-pub none_answered : (v : NumberingView) (number : ℕ) (found : Option State) → found ≡ None → state_of_number v.entries v.words number ≡ None → MatchOption found (state_of_number v.entries v.words number ≡ None) (IsStateOf v number)
+pub none_answered : (v : NumberingView) (number : ℕ) (found : Option State) → found ≡ None →
+    state_of_number v.entries v.words number ≡ None →
+    MatchOption found (state_of_number v.entries v.words number ≡ None) (IsStateOf v number)
 none_answered v number found none is = subst (λ o. MatchOption o (state_of_number v.entries v.words number ≡ None) (IsStateOf v number)) (sym none) is
 
 -- A number that isn't below the count has no state.
-pub past_count : (entries words : List (List ℕ)) (number : ℕ) → AreWords entries words → number_count entries ≤ number → state_of_number entries words number ≡ None
+pub past_count : (entries words : List (List ℕ)) (number : ℕ) → AreWords entries words → number_count entries ≤ number →
+    state_of_number entries words number ≡ None
 past_count entries words number are past = by (state_of_number entries words number) refl
   where
     by : (o : Option states.State) → state_of_number entries words number ≡ o → o ≡ None
@@ -139,27 +149,36 @@ past_count entries words number are past = by (state_of_number entries words num
         absurd (omega (arith, past, at.1, shaped-below entries s (shape_of_state entries words s are at.0)))
 
 -- A window that is no node is none of a state,
-pub no_window : (entries words : List (List ℕ)) (number node : ℕ) (l : Lengths) → AreWords entries words → IsCandidate entries number (candidate entries node l) → l.window ≤ length (node_strokes entries node) → None ≡ suffix_of entries node l.window → state_of_number entries words number ≡ None
+pub no_window : (entries words : List (List ℕ)) (number node : ℕ) (l : Lengths) → AreWords entries words →
+    IsCandidate entries number (candidate entries node l) → l.window ≤ length (node_strokes entries node) →
+    None ≡ suffix_of entries node l.window → state_of_number entries words number ≡ None
 no_window entries words number node l are is short none = no_state entries words number (candidate entries node l) are is (λ s.
     let x : List ℕ = end_of (node_strokes entries node) l.window in
     true≢false (sym s.window ∙ sym (node_test entries x) ∙ ap is_some (sym (none ∙ suffix_at entries node l.window short))))
 
 -- nor is such an open word,
-pub no_word : (entries words : List (List ℕ)) (number node : ℕ) (l : Lengths) → AreWords entries words → IsCandidate entries number (candidate entries node l) → l.word ≤ length (node_strokes entries node) → None ≡ suffix_of entries node l.word → state_of_number entries words number ≡ None
+pub no_word : (entries words : List (List ℕ)) (number node : ℕ) (l : Lengths) → AreWords entries words →
+    IsCandidate entries number (candidate entries node l) → l.word ≤ length (node_strokes entries node) →
+    None ≡ suffix_of entries node l.word → state_of_number entries words number ≡ None
 no_word entries words number node l are is short none = no_state entries words number (candidate entries node l) are is (λ s.
     let x : List ℕ = end_of (node_strokes entries node) l.word in
     let begun : is_prefix entries x ≡ true = is_prefix-open entries words x are s.word in
     true≢false (sym begun ∙ sym (node_test entries x) ∙ ap is_some (sym (none ∙ suffix_at entries node l.word short))))
 
 -- nor one that doesn't open a word.
-pub not_open : (entries words : List (List ℕ)) (number node word : ℕ) (l : Lengths) → AreWords entries words → IsCandidate entries number (candidate entries node l) → l.word ≤ length (node_strokes entries node) → Some word ≡ suffix_of entries node l.word → is_open words (node_strokes entries word) ≡ false → state_of_number entries words number ≡ None
+pub not_open : (entries words : List (List ℕ)) (number node word : ℕ) (l : Lengths) → AreWords entries words →
+    IsCandidate entries number (candidate entries node l) → l.word ≤ length (node_strokes entries node) →
+    Some word ≡ suffix_of entries node l.word → is_open words (node_strokes entries word) ≡ false →
+    state_of_number entries words number ≡ None
 not_open entries words number node word l are is short found shut = no_state entries words number (candidate entries node l) are is (λ s.
     let at = entry_number-Some (nodes entries) (end_of (node_strokes entries node) l.word) word (sym (found ∙ suffix_at entries node l.word short)) in
     true≢false (sym s.word ∙ ap (is_open words) (sym at.1) ∙ shut))
 
 -- In all other cases the candidate is the state.
-pub decoded : (v : NumberingView) (number node : ℕ) (l : Lengths) (s : State) → AreWords v.entries v.words → IsCandidate v.entries number (candidate v.entries node l) → max l.window l.word ≡ length (node_strokes v.entries node) →
-    Some s.window ≡ suffix_of v.entries node l.window → Some s.word ≡ suffix_of v.entries node l.word → s.mark ≡ l.mark → is_open v.words (node_strokes v.entries s.word) ≡ true → IsStateOf v number s
+pub decoded : (v : NumberingView) (number node : ℕ) (l : Lengths) (s : State) → AreWords v.entries v.words →
+    IsCandidate v.entries number (candidate v.entries node l) → max l.window l.word ≡ length (node_strokes v.entries node) →
+    Some s.window ≡ suffix_of v.entries node l.window → Some s.word ≡ suffix_of v.entries node l.word → s.mark ≡ l.mark →
+    is_open v.words (node_strokes v.entries s.word) ≡ true → IsStateOf v number s
 decoded seen number node l s are is long window word mark opens =
     let entries : List (List ℕ) = seen.entries in
     let words : List (List ℕ) = seen.words in

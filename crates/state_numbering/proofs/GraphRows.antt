@@ -1,18 +1,17 @@
 -- The lists of the closure graph.
-use Rattle.std.proofs.Common.{◌≡◌, ℕ, ◌<◌, List, length, sym, subst, ◌∙◌, arith}
-use Rattle.graph_rules.specs.Graphs.{row, HasTarget}
+use Rattle.std.proofs.Common.{ℕ, ◌<◌, List, length, arith}
+use Rattle.graph_rules.specs.Graphs.{HasTarget}
 use Rattle.steno_rules.specs.Outlines.{AreWords}
-use Rattle.steno_rules.specs.States.{State, IsState, IsMove, kept_targets}
-use Rattle.steno_rules.specs.StateNumbers.{state_number, number_count, state_of_number}
-use Rattle.steno_rules.specs.ClosureGraphs.{kept_lists, numbers_by}
-use Rattle.closure_laws.proofs.GraphLemmas.{length-lists, row_of_number, numbered_target}
+use Rattle.steno_rules.specs.States.{IsState, kept_targets}
+use Rattle.steno_rules.specs.ClosureGraphs.{kept_lists}
+use Rattle.closure_laws.proofs.GraphLemmas.{length-lists, numbered_target}
 use Rattle.closure_laws.proofs.StateLemmas.{IsState-target}
 use Rattle.closure_laws.proofs.StateNumberLemmas.{shape_of_state, shaped-below}
 use Rattle.closure_laws.proofs.TargetLemmas.{kept_targets-Contains}
-use Rattle.state_numbering.specs.Numberings.{NumberingView}
 
 -- Each target of a number is a number of the graph.
-pub target_below : (entries words : List (List ℕ)) → AreWords entries words → (s t : ℕ) → HasTarget (kept_lists entries words) s t → t < length (kept_lists entries words)
+pub target_below : (entries words : List (List ℕ)) → AreWords entries words → (s t : ℕ) → HasTarget (kept_lists entries words) s t →
+    t < length (kept_lists entries words)
 target_below entries words are s t has =
     let at = numbered_target entries words (kept_targets entries words) s t has in
     let move = ((kept_targets-Contains entries words at.source at.target).0 at.listed).0 in

@@ -1,5 +1,5 @@
 -- The number of a state by the part of its longer list.
-use Rattle.std.proofs.Common.{◌≡◌, ℕ, ◌+◌, ◌*◌, ◌/◌, ◌<◌, ◌≤◌, List, [], length, get_or, refl, sym, ap, subst, ◌∙◌, arith, ◌⊎◌, inl, inr, Option, Some, None, Contains, IfSome, nat_le}
+use Rattle.std.proofs.Common.{◌≡◌, ℕ, ◌+◌, ◌<◌, ◌≤◌, List, [], length, sym, ap, ◌∙◌, arith, ◌⊎◌, inl, inr, Contains}
 use Rattle.std.proofs.lemmas.List.{get_or_default}
 use Rattle.steno_rules.specs.Outlines.{AreWords}
 use Rattle.steno_rules.specs.Nodes.{nodes}
@@ -21,12 +21,15 @@ place_node entries node inside =
     outline_of-once (nodes entries) (place_of (nodes entries) (node_strokes entries node)) node (nodes-rising entries) (place_inside (nodes entries) (node_strokes entries node) has) inside (place_there (nodes entries) (node_strokes entries node) has)
 
 -- The number of a state whose longer list is a node's.
-pub number_at : (entries : List (List ℕ)) (s : states.State) (node : ℕ) → longer s ≡ node_strokes entries node → IsNode entries node → state_number entries s ≡ part_start (nodes entries) node + number_within (length s.u) (length s.v) s.mark
+pub number_at : (entries : List (List ℕ)) (s : states.State) (node : ℕ) → longer s ≡ node_strokes entries node → IsNode entries node →
+    state_number entries s ≡ part_start (nodes entries) node + number_within (length s.u) (length s.v) s.mark
 number_at entries s node is inside = ap (λ k. part_start (nodes entries) k + number_within (length s.u) (length s.v) s.mark) (ap (place_of (nodes entries)) is ∙ place_node entries node inside)
 
 -- It is the first number of the longer list's part and the number within it.
-pub number_is : (entries words : List (List ℕ)) (s : State) (window word long : Part) (offset : ℕ) → IsNodeState entries words s → IsNodePart entries s.window window → IsNodePart entries s.word word →
-    ((word.depth ≤ window.depth) × (long ≡ window)) ⊎ ((window.depth < word.depth) × (long ≡ word)) → offset ≡ number_within window.depth word.depth s.mark → long.start + offset ≡ state_number entries (state_at entries s)
+pub number_is : (entries words : List (List ℕ)) (s : State) (window word long : Part) (offset : ℕ) → IsNodeState entries words s →
+    IsNodePart entries s.window window → IsNodePart entries s.word word →
+    ((word.depth ≤ window.depth) × (long ≡ window)) ⊎ ((window.depth < word.depth) × (long ≡ word)) →
+    offset ≡ number_within window.depth word.depth s.mark → long.start + offset ≡ state_number entries (state_at entries s)
 number_is entries words s window word long offset is u v by offset_is =
     let inner : offset ≡ number_within (length (node_strokes entries s.window)) (length (node_strokes entries s.word)) s.mark = offset_is ∙ ap (λ d. number_within d word.depth s.mark) u.depth ∙ ap (λ d. number_within (length (node_strokes entries s.window)) d s.mark) v.depth in
     elim by [
@@ -41,5 +44,6 @@ number_is entries words s window word long offset is u v by offset_is =
     ]
 
 -- Each number of a state is below the count.
-pub number_below : (entries words : List (List ℕ)) (s : State) → AreWords entries words → IsNodeState entries words s → state_number entries (state_at entries s) < number_count entries
+pub number_below : (entries words : List (List ℕ)) (s : State) → AreWords entries words → IsNodeState entries words s →
+    state_number entries (state_at entries s) < number_count entries
 number_below entries words s are is = shaped-below entries (state_at entries s) (shape_of_state entries words (state_at entries s) are is.state)

@@ -1,15 +1,14 @@
 -- The parts of the nodes, one after another.
-use Rattle.std.proofs.Common.{◌≡◌, ℕ, zero, suc, ◌+◌, ◌-◌, ◌*◌, ◌/◌, ◌<◌, ◌≤◌, List, [], ◌∷◌, ◌++◌, length, take, get_or, refl, sym, ap, subst, ◌∙◌, arith, inl, inr}
+use Rattle.std.proofs.Common.{◌≡◌, ℕ, zero, suc, ◌+◌, ◌<◌, ◌≤◌, List, length, ap, arith, inl, inr}
 use Rattle.std.proofs.lemmas.Bool.{cases_lt}
-use Rattle.std.proofs.lemmas.List.{length_push, get_or_push, get_or_append_left}
 use Rattle.steno_rules.specs.Nodes.{nodes}
 use Rattle.steno_rules.specs.StateNumbers.{part_size, part_start, number_count}
-use Rattle.closure_laws.proofs.StateNumberLemmas.{start_step, start_up}
+use Rattle.closure_laws.proofs.StateNumberLemmas.{start_step}
 use Rattle.outline_trie.proofs.LookLemmas.{root_inside}
-use Rattle.outline_trie.specs.Tries.{IsNode, node_strokes}
+use Rattle.outline_trie.specs.Tries.{node_strokes}
 use Rattle.state_numbering.specs.declared.part.Part.{Part}
-use Rattle.state_numbering.specs.inside.Parts.{IsNodePart, ArePartsBelow, AreNodeParts, IsInPart}
-use Rattle.state_numbering.specs.inside.Blocks.{starts_at, IsLastBegun}
+use Rattle.state_numbering.specs.inside.Parts.{AreNodeParts, IsInPart}
+use Rattle.state_numbering.specs.inside.Blocks.{IsLastBegun}
 
 -- Each part has a number.
 starts_up : (ns : List (List ℕ)) (k : ℕ) → k ≤ length ns → k ≤ part_start ns k
@@ -28,7 +27,8 @@ pub count_some : (entries : List (List ℕ)) → 0 < number_count entries
 count_some entries = omega (arith, nodes_within entries, root_inside entries)
 
 -- The last part that begins at or before a number has it.
-pub in_part : (entries : List (List ℕ)) (parts : List Part) (number node : ℕ) → AreNodeParts entries parts → number < number_count entries → IsLastBegun parts number node → IsInPart entries number node
+pub in_part : (entries : List (List ℕ)) (parts : List Part) (number node : ℕ) → AreNodeParts entries parts → number < number_count entries →
+    IsLastBegun parts number node → IsInPart entries number node
 in_part entries parts number node are below last =
     let ns : List (List ℕ) = nodes entries in
     let inside : node < length ns = omega (arith, last.begun.inside, are.long) in

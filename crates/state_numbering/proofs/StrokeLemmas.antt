@@ -1,10 +1,8 @@
 -- The stroke into a state.
-use Rattle.std.proofs.Common.{◌≡◌, ℕ, ◌+◌, ◌-◌, ◌<◌, ◌≤◌, List, [], ◌∷◌, ◌++◌, length, take, drop, refl, sym, ap, subst, ◌∙◌, arith, ◌⊎◌, inl, inr, Option, Some, None, drop_at}
+use Rattle.std.proofs.Common.{◌≡◌, ℕ, ◌-◌, ◌<◌, ◌≤◌, List, [], ◌∷◌, ◌++◌, length, drop, sym, ap, ◌∙◌, arith, inl, inr, Option, Some, None, drop_at}
 use Rattle.std.specs.Prelude.{MatchOption}
-use Rattle.std.proofs.lemmas.List.{length_push, length-take}
-use Rattle.steno_rules.specs.States as states
-use Rattle.steno_rules.specs.StateNumbers.{longer, state_of_number}
-use Rattle.closure_laws.specs.Examples.{last_stroke}
+use Rattle.std.proofs.lemmas.List.{length_push}
+use Rattle.steno_rules.specs.StateNumbers.{longer}
 use Rattle.closure_laws.proofs.StateNumberLemmas.{longer_cases}
 use Rattle.outline_trie.specs.Tries.{node_strokes, IsLast}
 use Rattle.outline_trie.proofs.LookLemmas.{root_is}
@@ -18,7 +16,8 @@ last_of : (x front : List ℕ) (code : ℕ) → x ≡ front ++ code ∷ [] → d
 last_of x front code is = ap (λ y. drop (length y - 1) y) is ∙ drop_at front (code ∷ []) (length (front ++ code ∷ []) - 1) (omega (arith, length_push front code))
 
 -- The answer is that of the node of the state's longer list.
-pub stroke_of_node : (v : NumberingView) (number node : ℕ) (s : State) (found : Option ℕ) → IsStateOf v number s → longer (state_at v.entries s) ≡ node_strokes v.entries node → MatchOption found (node ≡ 0) (IsLast v.entries node) →
+pub stroke_of_node : (v : NumberingView) (number node : ℕ) (s : State) (found : Option ℕ) → IsStateOf v number s →
+    longer (state_at v.entries s) ≡ node_strokes v.entries node → MatchOption found (node ≡ 0) (IsLast v.entries node) →
     MatchOption found (HasNoStroke v number) (IsStrokeInto v number)
 stroke_of_node v number node s None is long last = λ code into.
     let found : Some (state_at v.entries s) ≡ Some into.state = sym is.number_is ∙ into.number_is in
@@ -33,9 +32,11 @@ stroke_of_node v number node s (Some code) is long last = record {
 }
 
 -- The longer list is the window's where the open word has no more strokes,
-pub longer_window : (entries : List (List ℕ)) (s : State) (wide deep : ℕ) → wide ≡ length (node_strokes entries s.window) → deep ≡ length (node_strokes entries s.word) → deep ≤ wide → longer (state_at entries s) ≡ node_strokes entries s.window
+pub longer_window : (entries : List (List ℕ)) (s : State) (wide deep : ℕ) → wide ≡ length (node_strokes entries s.window) →
+    deep ≡ length (node_strokes entries s.word) → deep ≤ wide → longer (state_at entries s) ≡ node_strokes entries s.window
 longer_window entries s wide deep u v short = elim (longer_cases (state_at entries s)) [ inl h ↦ h.1 | inr h ↦ absurd (omega (arith, h.0, u, v, short)) ]
 
 -- and else the open word's.
-pub longer_word : (entries : List (List ℕ)) (s : State) (wide deep : ℕ) → wide ≡ length (node_strokes entries s.window) → deep ≡ length (node_strokes entries s.word) → wide < deep → longer (state_at entries s) ≡ node_strokes entries s.word
+pub longer_word : (entries : List (List ℕ)) (s : State) (wide deep : ℕ) → wide ≡ length (node_strokes entries s.window) →
+    deep ≡ length (node_strokes entries s.word) → wide < deep → longer (state_at entries s) ≡ node_strokes entries s.word
 longer_word entries s wide deep u v short = elim (longer_cases (state_at entries s)) [ inl h ↦ absurd (omega (arith, h.0, u, v, short)) | inr h ↦ h.1 ]

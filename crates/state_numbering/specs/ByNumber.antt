@@ -4,7 +4,7 @@
 --     HasNoStroke v number          no state has the number, or both lists are empty
 --     IsHitOf v number h            the number has a state, and it is this hit
 --     HasNoHit v number             no state has the number, or it is no hit
-use Rattle.std.specs.Prelude.{ℕ, ◌≡◌, ◌<◌, List, [], ◌∷◌, length, Some}
+use Rattle.std.specs.Prelude.{ℕ, ◌≡◌, ◌<◌, [], ◌∷◌, length, Some}
 use Rattle.steno_rules.specs.StateNumbers.{state_of_number}
 use Rattle.steno_rules.specs.States.{State, IsHit}
 use Rattle.closure_laws.specs.Examples.{last_stroke}

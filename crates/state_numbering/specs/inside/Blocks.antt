@@ -2,7 +2,7 @@
 --     starts_at parts node               the first number of a part
 --     IsLastBegun parts number node      the last part that begins at or before the number
 --     AreBlockStarts parts width nodes   for each block a part that begins at or before its first number
-use Rattle.std.specs.Prelude.{ℕ, List, ◌≡◌, ◌<◌, ◌≤◌, ◌+◌, ◌*◌, length, get_or, slice_index_or}
+use Rattle.std.specs.Prelude.{ℕ, List, ◌<◌, ◌≤◌, ◌+◌, ◌*◌, length, get_or, slice_index_or}
 use Rattle.state_numbering.specs.declared.part.Part.{Part}
 
 abbrev pub starts_at : List Part → ℕ → ℕ

@@ -1,4 +1,4 @@
-use Rattle.std.proofs.Common.{◌≡◌, ap, sym, subst, ◌∙◌, arith}
+use Rattle.std.proofs.Common.{ap, sym, subst, ◌∙◌, arith}
 use Rattle.steno_rules.specs.Outlines.{AreWords}
 use Rattle.steno_rules.specs.StateNumbers.{number_count}
 use Rattle.steno_rules.specs.States.{kept_targets}

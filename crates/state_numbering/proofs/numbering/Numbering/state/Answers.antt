@@ -1,7 +1,6 @@
-use Rattle.std.proofs.Common.{◌≡◌, ap, sym, subst, ◌∙◌, arith, length, None, Some, refl, true, false, List, ℕ}
+use Rattle.std.proofs.Common.{◌≡◌, ap, sym, subst, ◌∙◌, arith, refl, true, false}
 use Rattle.steno_rules.specs.Outlines.{AreWords}
 use Rattle.steno_rules.specs.StateNumbers.{number_count}
-use Rattle.steno_rules.specs.WordSets.{words_in}
 use Rattle.steno_rules.specs.States.{is_open}
 use Rattle.outline_trie.specs.Tries.{IsNode, node_strokes}
 use Rattle.translation_laws.proofs.WordSetLemmas.{word_set-open}
