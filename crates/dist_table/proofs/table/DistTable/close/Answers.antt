@@ -11,7 +11,7 @@ if_ok (Err x) xs P e p = tt
 pub returns : goal.returns
 returns g c =
     let key = c.self.invariant.0 in
-    if_ok c.flagged-words.result (slots_items c.close_with-closed.result.words) (LeavesWords c.args.pass) c.flagged-words.ensures
+    if_ok c.words_of-words.result (slots_items c.close_with-closed.result.words) (LeavesWords c.args.pass) c.words_of-words.ensures
     (ends c.args.pass _ _ (ap g.G.StepGraph.origin key ∙ ap (λ (t : TableView). t.origin) (c.self.view_is ∙ sym c.requires))
     (ap g.G.StepGraph.lists key ∙ ap (λ (t : TableView). t.lists) (c.self.view_is ∙ sym c.requires))
     _ _ (ap (λ (p : PassView). p.seen) c.pass.view_is) (c.pass.invariant.1 ∙ ap (λ (p : PassView). Some p.number) c.pass.view_is) _ _ c.close_with-closed.ensures.values.2)
