@@ -83,7 +83,7 @@ min_stands : (o : ℕ) (ls : List (List ℕ)) (s a b : ℕ) → Stands o ls s a 
 min_stands o ls s a b p q (yes d) = subst (Stands o ls s) (sym (min-eq_left d)) p
 min_stands o ls s a b p q (no d) = subst (Stands o ls s) (sym (min-eq_right (le_of_lt (lt_of_not-le d)))) q
 
--- each word stands after a word became the lesser of itself and a word that stands for it
+-- each settled word stands after a settled word became the lesser of itself and a settled word that stands for it
 pub stand_after : (o : ℕ) (ls : List (List ℕ)) (ws : List ℕ) (i value : ℕ) → ((j : ℕ) → j < length ws → Stands o ls j (slice_index ws j)) → Stands o ls i value → i < length ws
     → (j : ℕ) → j < length ws → Stands o ls j (slice_index (slice_set ws i (min (slice_index ws i) value)) j)
 stand_after o ls ws i value h v lt j below =

@@ -200,7 +200,7 @@ aims_at o ls slots id i me s k homes at fits =
       (refl, refl),
     )
 
--- a relax that lowers nothing leaves the words as they are
+-- a relax that lowers nothing leaves the settled words as they are
 lowers_nothing : (words : List ℕ) (n i value : ℕ) → slice_index words i ≤ value → words_after_call words (call n true i value (slice_index words i)) ≡ words
 lowers_nothing words n i value le = ap (λ m. set words i m) (min-eq_left le) ∙ set-get_or words i 0
 

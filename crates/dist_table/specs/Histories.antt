@@ -1,10 +1,10 @@
--- Histories of calls on a table, and the words that they leave.
+-- Histories of calls on a table, and the settled words that they leave.
 --     relax_call, look_call ..            the two kinds of call
---     opening_words origin count          the words before the first call
---     words_after_call words c            the words after one call
---     replayed_words words calls             the words after all the calls, one after the other
---     AreReplies words calls              each call replied the word as it was at its turn
---     IsLegal origin lists calls          the same, from the opening words on
+--     opening_words origin count          the settled words before the first call
+--     words_after_call words c            the settled words after one call
+--     replayed_words words calls             the settled words after all the calls, one after the other
+--     AreReplies words calls              each call replied the settled word as it was at its turn
+--     IsLegal origin lists calls          the same, from the opening settled words on
 --     calls_by pass calls                 the calls of one pass, in their order
 --     longer_history xs ys                the longer of two
 --     ExtendsHistory origin lists seen c now     what was seen goes on, and ends with this call
@@ -27,7 +27,7 @@ look_call pass state reply = call pass false state 0 reply
 abbrev pub opening_words : ℕ → ℕ → List ℕ
 opening_words origin count = slice_set (replicate count unreached) origin 0
 
--- a relax puts the lesser of the word and its value, a look puts nothing
+-- a relax puts the lesser of the settled word and its value, a look puts nothing
 abbrev pub words_after_call : List ℕ → Call → List ℕ
 words_after_call words c =
     cond c.relax (slice_set words c.state (min (slice_index words c.state) c.value)) words

@@ -1,5 +1,5 @@
 -- The rule of a table, which holds between any two steps of any threads: there is one legal history, which leaves the
--- words, and each word stands.
+-- settled words, and each settled word stands.
 --     first_pass                what the first pass knows
 --     OwnsNumber v n            the number is the pass's own, or reserved by it for the next pass
 --     FitsHistory ..            what a pass knows is true of the history

@@ -6,7 +6,7 @@
 --     MakesRelax p .. q         p made this relax and became q
 --     MakesLook p .. q          p made this look and became q
 --     IsJoined p other q        p took in the other pass and became q
---     LeavesWords p words       the words at the end, where p is the pass that is left
+--     LeavesWords p words       the settled words at the end, where p is the pass that is left
 use Rattle.std.specs.Prelude.{◌≡◌, ℕ, ◌<◌, List, length, slice_index}
 use mathlib.Core.List.{IsPrefix}
 use Rattle.atomic_table.specs.Seated.{TableId}
@@ -53,7 +53,7 @@ pub record IsJoined (p other q : PassView) : Type 0 where
   pub taken : calls_by other.number q.seen ≡ calls_by other.number other.seen
 
 -- there is one history: it begins with what the pass has seen, has no other calls of the pass, is legal and leaves the
--- words, of which each stands
+-- settled words, of which each stands
 pub record LeavesWords (p : PassView) (words : List ℕ) : Type 0 where
   pub history : List Call
   pub begins : IsPrefix p.seen history

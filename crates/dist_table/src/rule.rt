@@ -3,7 +3,7 @@ use crate::knowledge::Knowledge;
 use atomic_table::{Join, Play, Split, TableRule};
 use round_core::StepGraph;
 
-/// The rule: one legal history leaves the words, each word stands, and what each pass knows is true.
+/// The rule: one legal history leaves the settled words, each settled word stands, and what each pass knows is true.
 pub struct OneHistory;
 
 impl<G: StepGraph> TableRule<u8, Knowledge, G> for OneHistory {
@@ -72,7 +72,7 @@ impl Play<u8, Knowledge> for Confirmed {
     ghost then = { TellsJoined };
 }
 
-/// A load of the word of the number from which the next moves go, which tells its distance.
+/// A load of the settled word of the number from which the next moves go, which tells its distance.
 pub struct Aimed;
 
 impl Play<u8, Knowledge> for Aimed {
@@ -81,7 +81,7 @@ impl Play<u8, Knowledge> for Aimed {
     ghost then = { TellsAim };
 }
 
-/// A load that is the relax by the next move, where the move can't lower the word that it finds.
+/// A load that is the relax by the next move, where the move can't lower the settled word that it finds.
 pub struct Spared;
 
 impl Play<u8, Knowledge> for Spared {

@@ -1,4 +1,4 @@
-//! The worked example of the table, and two threads that lower one word beside each other.
+//! The worked example of the table, and two threads that lower one settled word beside each other.
 ghost use Rattle.std.specs.Prelude.{◌≡◌};
 ghost use Rattle.dist_table.specs.inside.Samples.{IsOfThree};
 
@@ -75,7 +75,7 @@ fn on_to_two(table: &DistTable<Three>, pass: &mut Pass) -> u64
     table.relax(pass, 2, 1, 1)
 }
 
-// The words as they are seen.
+// The settled words as they are seen.
 fn seen(table: &DistTable<Three>, pass: &mut Pass) -> (u64, u64, u64)
     requires { IsOfThree table.now pass.old }
     ensures { IsOfThree table.now pass.new }
@@ -134,7 +134,7 @@ fn lower_beside(
     join_mut(rt, &mut far, &mut near);
 }
 
-// The words that two threads leave.
+// The settled words that two threads leave.
 fn words_of_two(rt: &(impl Threads + Sync), alloc: Global) -> Result<Vec<u64>, AllocError> {
     let graph = Three;
     let (table, mut pass) = DistTable::new(alloc, &graph)?;

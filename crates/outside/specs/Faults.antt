@@ -31,3 +31,8 @@ is_read_failed (Ok x) = false
 is_read_failed (Err read.Failed) = true
 is_read_failed (Err read.TooLong) = false
 is_read_failed (Err read.Memory) = false
+
+-- why a file wasn't read, by why one of its calls was refused
+abbrev pub read_fault_of : OutsideFault → ReadFault
+read_fault_of Failed = read.Failed
+read_fault_of Memory = read.Memory

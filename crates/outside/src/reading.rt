@@ -39,15 +39,8 @@ pub fn read_all<F: Files>(
     ensures failed { IsErrOf result ReadFault.Failed → FaultAt name.now Way.Reading (F.view files.old) (F.view files.new) }
     ensures steady { Steady (is_read_failed result) (F.view files.old).faults (F.view files.new).faults }
 {
-    let Ok(mut buffer) = piece_buffer(alloc) else {
-        return Err(ReadFault::Memory);
-    };
-    if let Err(fault) = files.open_file(name) {
-        return Err(match fault {
-            OutsideFault::Failed => ReadFault::Failed,
-            OutsideFault::Memory => ReadFault::Memory,
-        });
-    }
+    let mut buffer = piece_buffer(alloc)?;
+    files.open_file(name)?;
     let mut bytes: Vec<u8> = Vec::new(alloc);
     'turns: for turn in 0..limit + 2 {
         match files.take(&mut buffer) {
@@ -57,9 +50,7 @@ pub fn read_all<F: Files>(
                 if (bytes.len() + count) as u64 > limit {
                     return Err(ReadFault::TooLong);
                 }
-                if bytes.extend_from_slice(&buffer[..count]).is_err() {
-                    return Err(ReadFault::Memory);
-                }
+                bytes.extend_from_slice(&buffer[..count])?;
             }
         }
     }

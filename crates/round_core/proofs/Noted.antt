@@ -126,7 +126,7 @@ module _ (o : ℕ) (ls : List (List ℕ)) where
       of s below b (inl near) = word_is s (get_or words s 0) b near.settled
       of s below b (inr far) = absurd (far.beyond (suc k) (omega arith) b.walk)
 
-  -- in a round each word stands
+  -- in a round each settled word stands
   pub stands : (k : ℕ) (words : List ℕ) (todo : ℕ → ℕ → Type 0) → length ls ≤ 33554432 → IsWithin o ls k words todo → (s : ℕ) → s < length ls → Stands o ls s (get_or words s 0)
   stands k words todo few h s below = elim (h.each s below) [
     | inl near ↦ settled_stands o ls s (get_or words s 0) (omega (arith, few)) near.settled

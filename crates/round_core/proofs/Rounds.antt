@@ -1,4 +1,4 @@
--- The words during a round, and between two. Here a frontier is no list yet: p is in it where its least distance is k.
+-- The settled words during a round, and between two. Here a frontier is no list yet: p is in it where its least distance is k.
 use Rattle.std.proofs.Common.{◌≡◌, ◌≢◌, ℕ, zero, suc, ◌+◌, ◌*◌, ◌≤◌, ◌<◌, ◌⊎◌, List, length, get_or, set, min, sym, ap, subst, ◌∙◌, arith, inl, inr, replicate}
 use Rattle.std.proofs.lemmas.List.{get_or-set_other, get_or-replicate, length-set, length-replicate, get_or_past}
 use Rattle.std.proofs.lemmas.Bool.{cases_lt}
@@ -51,7 +51,7 @@ module _ (o : ℕ) (ls : List (List ℕ)) where
     done = λ p t below best target. elim (h.done p t below best target) [ inl there ↦ inl (more p t target there) | inr le ↦ inr le ];
   }
 
-  -- the words of the numbers that are near are less than all that the round puts
+  -- the settled words of the numbers that are near are less than all that the round puts
   pub near_low : (k s w : ℕ) → length ls ≤ 33554432 → IsNear o ls k s w → w < (k + 1) * 4294967296
   near_low k s w few h = by h.settled
     where
@@ -63,7 +63,7 @@ module _ (o : ℕ) (ls : List (List ℕ)) where
           omega (arith, same, within, below, few, word)
       by (inr (inr is)) = absurd (is.0 h.n h.best.walk)
 
-  -- a word never rises
+  -- a settled word never rises
   falls : (words : List ℕ) (t v s : ℕ) → get_or (set words t (min (get_or words t 0) v)) s 0 ≤ get_or words s 0
   falls words t v s = elim (same_or_not s t) [
     | inl is ↦ elim (cases_lt t (length words)) [

@@ -44,7 +44,7 @@ noted_append old noted t w = by (w == unreached)
     by true = append_assoc old noted (t ∷ [])
     by false = refl
 
--- nothing changes where the word isn't less
+-- nothing changes where the settled word isn't less
 pub skipped : (words queue : List ℕ) (t v : ℕ) → v < unreached → get_or words t 0 ≤ v → (words ≡ lowered words t v) × (queue ≡ noted_with queue t (get_or words t 0))
 skipped words queue t v low le = (
   sym (ap (λ x. set words t x) (let e : min (get_or words t 0) v ≡ get_or words t 0 = omega (arith, le) in e) ∙ set-get_or words t 0),
@@ -148,7 +148,7 @@ module _ (o : ℕ) (ls : List (List ℕ)) where
   pub state_best : (k start at state : ℕ) (old : List ℕ) → IsFrontier o ls k (drop start old) → start ≤ at → at < length old → state ≡ get_or old at 0 → (state < length ls) × IsBest o ls state k
   state_best k start at state old front le lt is = let b = front.best (get_or old at 0) (has_drop_at old start at le lt) in (let l = b.0 in omega (arith, l, is), subst (λ x. IsBest o ls x k) (sym is) b.1)
 
-  -- the three ways of the code: the word isn't less, it is, or the number is new
+  -- the three ways of the code: the settled word isn't less, it is, or the number is new
   pub make_by : (k start at state t word found : ℕ) (old left rest words queue now longer : List ℕ) (moves : ℕ) → length ls ≤ 33554432 → k < 33554432 → t < length ls → IsBest o ls state k → left ≡ t ∷ rest
       → word ≡ moved k state → found ≡ get_or words t found
       → ((found ≤ word) × (now ≡ words) × (longer ≡ queue)) ⊎ ((word < found) × (now ≡ set words t word) × (found ≢ unreached) × (longer ≡ queue)) ⊎ ((word < found) × (now ≡ set words t word) × (found ≡ unreached) × (longer ≡ queue ++ t ∷ []))

@@ -1,4 +1,4 @@
--- Sums over the numbers that were reached. They count what a list that grows with the words has, so that no list has a number twice and all lists have room.
+-- Sums over the numbers that were reached. They count what a list that grows with the settled words has, so that no list has a number twice and all lists have room.
 use Rattle.std.proofs.Common.{◌≡◌, ◌==◌, ℕ, zero, suc, ◌+◌, ◌≤◌, ◌<◌, Bool, true, false, List, [], ◌∷◌, ◌++◌, length, get_or, set, min, refl, arith, inl, inr, replicate}
 use Rattle.std.specs.Prelude.{sum_by, cond}
 use Rattle.std.proofs.lemmas.List.Sums.{sum_by-append, sum_by-cons}

@@ -76,7 +76,7 @@ is_enabled m Close = m.begun && (none_untaken m.untaken && all_free m.hands)
 
 -- ---- what an enabled event does
 
--- the words where a walk to t was found whose word is w: the lesser of the two words stays
+-- the settled words where a walk to t was found whose settled word is w: the lesser of the two settled words stays
 abbrev pub lowered : List ℕ → ℕ → ℕ → List ℕ
 lowered words t w = slice_set words t (min (slice_index words t) w)
 

@@ -2,8 +2,8 @@
 --     Has xs s                            s is in the list
 --     IsBeyond origin lists k s           no walk of at most k moves goes to s
 --     IsNear origin lists k s w           the least distance of s is at most k, and w is its settled word
---     IsFar origin lists k s w            s is farther than k, and w is the word of a number that nothing was found of
---     IsBetween origin lists k words      each word is near or far: all that is at most k moves away is settled, the rest untouched
+--     IsFar origin lists k s w            s is farther than k, and w is the settled word of a number that nothing was found of
+--     IsBetween origin lists k words      each settled word is near or far: all that is at most k moves away is settled, the rest untouched
 --     IsFrontier origin lists k front     the list has the numbers at the least distance k and no others
 --     AreRisingNumbers xs                        each number of the list is less than all later ones
 use Rattle.std.specs.Prelude.{◌≡◌, ℕ, ◌≤◌, ◌<◌, ◌⊎◌, List, [], ◌∷◌, length, slice_get, slice_index, Some}

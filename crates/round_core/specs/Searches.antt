@@ -8,7 +8,7 @@ pub record SettledView : Type 0 where
   pub rounds : ℕ
   pub relaxed : ℕ
 
--- the sum of f over the numbers whose words say that they were reached
+-- the sum of f over the numbers whose settled words say that they were reached
 abbrev pub sum_reached : (ℕ → ℕ) → List ℕ → ℕ
 sum_reached f [] = 0
 sum_reached f (w ∷ ws) = cond (w == unreached) 0 (f 0) + sum_reached (λ s. f (suc s)) ws

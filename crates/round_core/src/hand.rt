@@ -87,7 +87,7 @@ pub(crate) fn free_hands<C: Drop>(
     ensures { IfOk result (λ hands. hands.items ≡ replicate count None) }
 {
     let mut hands = Vec::with_capacity(alloc, count)?;
-    for _i in 0..count {
+    for worker in 0..count {
         hands.push(None)?;
     }
     Ok(hands)

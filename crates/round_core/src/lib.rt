@@ -1,9 +1,9 @@
-//! Searches a graph of numbers by rounds, and says what the search has found as one word a number.
+//! Searches a graph of numbers by rounds, and says what the search has found as one settled word a number.
 //!
 //! A graph is a start and, for each number, a list of targets ([`StepGraph`]). The settled word of a number says how far it
 //! is from the start and by which number it is reached: 0 for the start, `distance * 2^32 + source` for another reached
 //! number, where the source is the least number that is one move nearer, and `u64::MAX` for a number that isn't reached. So
-//! the words alone lead from each reached number back to the start along a shortest walk, and they are the same whoever
+//! the settled words alone lead from each reached number back to the start along a shortest walk, and they are the same whoever
 //! searches, in whatever order.
 //!
 //! - [`search_plain`] finds them on one thread, in time linear in numbers and moves:
@@ -47,7 +47,7 @@ pub fn one_search()
 
 /// Whatever the graph, the number of workers and the schedule: between rounds exactly the numbers at most as far as the rounds
 /// that were closed are settled, and the frontier has those at that distance. So where nothing is left in the frontier all
-/// words are settled. At each moment each word stands.
+/// words are settled. At each moment each settled word stands.
 pub fn round_law()
     ensures between { (origin : ℕ) (lists : List (List ℕ)) (workers : ℕ) (events : List Event) →
         IsGraph origin lists → (run lists (opening origin lists workers) events).begun ≡ false →

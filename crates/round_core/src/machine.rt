@@ -18,7 +18,7 @@ use std::mem;
 
 /// The round machine over a graph, which it borrows.
 ///
-/// All its memory is taken when it is made: for each number its word, a place in the frontier, one among the noted and a flag
+/// All its memory is taken when it is made: for each number its settled word, a place in the frontier, one among the noted and a flag
 /// of a batch, and for each worker a hand.
 #[derive(Drop)]
 pub struct RoundState<'a, G: StepGraph> {
@@ -88,7 +88,7 @@ impl<'a, G: StepGraph> RoundState<'a, G> {
         })
     }
 
-    /// The word of a number below the count. At each moment it stands for a walk that was found.
+    /// The settled word of a number below the count. At each moment it stands for a walk that was found.
     pub fn word(&self, state: u32) -> u64
         requires { state < length self.now.lists }
         ensures word { result ≡ slice_index self.now.now.words state }

@@ -10,10 +10,8 @@ pub(crate) fn refill(untaken: &mut Vec<bool>, count: usize)
     ensures room { vec_capacity untaken.old ≤ vec_capacity untaken.new }
 {
     untaken.clear();
-    for _i in 0..count {
-        if untaken.push(true).is_err() {
-            unreachable!()
-        }
+    for batch in 0..count {
+        untaken.push_reserved(true);
     }
 }
 
@@ -42,12 +40,10 @@ fn note(noted: &mut Vec<u32>, state: u32)
     ensures items { noted.new.items ≡ noted.old.items ++ state ∷ [] }
     ensures room { vec_capacity noted.old ≤ vec_capacity noted.new }
 {
-    if noted.push(state).is_err() {
-        unreachable!()
-    }
+    noted.push_reserved(state);
 }
 
-/// A walk to the target was found, whose word this is. The lesser word stays, and the target is noted where it is new.
+/// A walk to the target was found, whose settled word this is. The lesser settled word stays, and the target is noted where it is new.
 pub(crate) fn lower(words: &mut Vec<u64>, noted: &mut Vec<u32>, target: u32, word: u64)
     requires below { target < length words.old.items }
     requires room { length noted.old.items < vec_capacity noted.old }

@@ -11,7 +11,7 @@ use std::alloc::{AllocError, Global};
 
 /// The settled words of a graph, with the rounds and the moves that it takes to find them.
 ///
-/// It asks once for each target of each reached number, and takes memory twice, for the words and for a queue of all numbers
+/// It asks once for each target of each reached number, and takes memory twice, for the settled words and for a queue of all numbers
 /// that are reached. `AllocError` only where one of the two was refused.
 pub fn search_plain<G: StepGraph>(alloc: Global, graph: &G) -> Result<Settled, AllocError>
     ensures { IfOk result (λ s. IsSearched (G.origin graph.now) (G.lists graph.now) s) }

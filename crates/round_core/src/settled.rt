@@ -3,7 +3,7 @@ ghost use Rattle.std.specs.Prelude.{◌≡◌};
 
 use std::marker::Model;
 
-/// The words of a graph's numbers, with the rounds and the moves that it took to find them.
+/// The settled words of a graph's numbers, with the rounds and the moves that it took to find them.
 #[derive(Drop)]
 pub struct Settled {
     words: Vec<u64>,
@@ -20,7 +20,7 @@ impl Model for Settled {
 }
 
 impl Settled {
-    /// These words, rounds and moves as they are: it is the search that says what they mean.
+    /// These settled words, rounds and moves as they are: it is the search that says what they mean.
     pub fn new(words: Vec<u64>, rounds: u32, relaxed: u64) -> Settled
         ensures { result ≡ record { words = words.items; rounds = rounds; relaxed = relaxed } }
     {
@@ -31,7 +31,7 @@ impl Settled {
         }
     }
 
-    /// The word of each number.
+    /// The settled word of each number.
     pub fn words(&self) -> &[u64]
         ensures { result.now ≡ self.now.words }
     {

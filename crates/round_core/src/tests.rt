@@ -192,14 +192,14 @@ fn drive(machine: &mut RoundState<'_, Regular>)
         Event::Relax { worker: 1 },
         Event::Close,
     ];
-    for _i in 0..40 {
+    for _ in 0..40 {
         for event in &turn {
             machine.step(*event);
         }
     }
 }
 
-// Whether the plain search gives these, and the machine the same words.
+// Whether the plain search gives these, and the machine the same settled words.
 fn agree(
     alloc: Global,
     graph: &Regular,

@@ -1,5 +1,9 @@
 //! Why states weren't numbered.
 
+ghost use Rattle.std.specs.Prelude.{◌≡◌};
+ghost use Rattle.state_numbering.specs.declared.fault.NumberFault.TheVariants.{Memory};
+
+use std::alloc::AllocError;
 use thiserror::Error;
 
 /// Why states weren't numbered.
@@ -11,4 +15,12 @@ pub enum NumberFault {
     /// No memory was left.
     #[error("out of memory")]
     Memory,
+}
+
+impl From<AllocError> for NumberFault {
+    ghost from_gives = { λ _ fault. fault ≡ Memory };
+
+    fn from(_: AllocError) -> NumberFault {
+        NumberFault::Memory
+    }
 }

@@ -45,12 +45,8 @@ impl<'a> Parts<'a> {
             return Err(NumberFault::TooManyStates { count });
         }
         let count = count as u32;
-        let Ok(parts) = parts_of(alloc, trie) else {
-            return Err(NumberFault::Memory)
-        };
-        let Ok(blocks) = blocks_of(alloc, &parts, count) else {
-            return Err(NumberFault::Memory)
-        };
+        let parts = parts_of(alloc, trie)?;
+        let blocks = blocks_of(alloc, &parts, count)?;
         Ok(Parts {
             trie,
             parts,

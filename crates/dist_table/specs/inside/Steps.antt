@@ -76,7 +76,7 @@ TellsJoined s v found w =
     × IsLegal v.0.origin v.0.lists v.0.seen
     × HasNoFurtherCalls v.0
 
--- a load of the word of the number from which the next moves go
+-- a load of the settled word of the number from which the next moves go
 abbrev pub TellsAim : Step ℕ → Me ℕ Knowledge → ℕ → Me ℕ Knowledge → Type 0
 TellsAim s v found w = (w.1 ≡ v.1) × (w.0 ≡ aiming v.0 (found / 4294967296) s.word)
 
@@ -84,7 +84,7 @@ TellsAim s v found w = (w.1 ≡ v.1) × (w.0 ≡ aiming v.0 (found / 4294967296)
 abbrev pub next_value : Knowledge → ℕ
 next_value v = moved v.distance v.source
 
--- a load that finds a word that the next move can't lower is the relax by that move, and any other tells nothing
+-- a load that finds a settled word that the next move can't lower is the relax by that move, and any other tells nothing
 abbrev pub TellsSpared : Step ℕ → Me ℕ Knowledge → ℕ → Me ℕ Knowledge → Type 0
 TellsSpared s v found w =
     ((found ≤ next_value v.0) × TellsCall true (step s.slots s.word (next_value v.0) 0 none) v found w)

@@ -84,15 +84,10 @@ impl Files for MemFiles {
         ensures due { AsDue (is_listed (mem_script self.old) || is_none (mem_kept self.old name.now)) result }
     {
         if self.script.fails() || !self.files.holds(name) {
-            return match self.files.fail_to_open(name) {
-                Ok(()) => Err(OutsideFault::Failed),
-                Err(_) => Err(OutsideFault::Memory),
-            };
+            self.files.fail_to_open(name)?;
+            return Err(OutsideFault::Failed);
         }
-        match self.files.open(name) {
-            Ok(()) => Ok(()),
-            Err(_) => Err(OutsideFault::Memory),
-        }
+        Ok(self.files.open(name)?)
     }
 
     fn take(&mut self, into: &mut [u8]) -> Result<usize, Failed>
@@ -134,15 +129,10 @@ impl Files for MemFiles {
         ensures due { AsDue (is_listed (mem_script self.old)) result }
     {
         if self.script.fails() {
-            return match self.files.fail_to_begin(name) {
-                Ok(()) => Err(OutsideFault::Failed),
-                Err(_) => Err(OutsideFault::Memory),
-            };
+            self.files.fail_to_begin(name)?;
+            return Err(OutsideFault::Failed);
         }
-        match self.files.begin(name) {
-            Ok(()) => Ok(()),
-            Err(_) => Err(OutsideFault::Memory),
-        }
+        Ok(self.files.begin(name)?)
     }
 
     fn put(&mut self, piece: &[u8]) -> Result<usize, OutsideFault>
@@ -168,10 +158,8 @@ impl Files for MemFiles {
             self.files.note_writing();
             return Err(OutsideFault::Failed);
         }
-        match self.files.put(piece) {
-            Ok(()) => Ok(piece.len()),
-            Err(_) => Err(OutsideFault::Memory),
-        }
+        self.files.put(piece)?;
+        Ok(piece.len())
     }
 
     fn end(&mut self) -> Result<(), Failed>

@@ -81,9 +81,7 @@ impl Sink for MemSink {
             self.faults = self.faults.saturating_add(1);
             return Err(OutsideFault::Failed);
         }
-        if self.text.extend_from_slice(piece).is_err() {
-            return Err(OutsideFault::Memory);
-        }
+        self.text.extend_from_slice(piece)?;
         Ok(piece.len())
     }
 }

@@ -44,10 +44,7 @@ impl Files for PlainFiles {
     ghost view = { plain_view };
 
     fn open_file(&mut self, name: &str) -> Result<(), OutsideFault> {
-        match self.files.open(name) {
-            Ok(()) => Ok(()),
-            Err(_) => Err(OutsideFault::Memory),
-        }
+        Ok(self.files.open(name)?)
     }
 
     fn take(&mut self, into: &mut [u8]) -> Result<usize, Failed>
@@ -67,10 +64,7 @@ impl Files for PlainFiles {
     }
 
     fn begin(&mut self, name: &str) -> Result<(), OutsideFault> {
-        match self.files.begin(name) {
-            Ok(()) => Ok(()),
-            Err(_) => Err(OutsideFault::Memory),
-        }
+        Ok(self.files.begin(name)?)
     }
 
     fn put(&mut self, piece: &[u8]) -> Result<usize, OutsideFault>
@@ -88,10 +82,8 @@ impl Files for PlainFiles {
         ensures steady { Steady (is_failed result) (plain_view self.old).faults (plain_view self.new).faults }
         ensures all { IfOk result (λ n. n ≡ length piece.now) }
     {
-        match self.files.put(piece) {
-            Ok(()) => Ok(piece.len()),
-            Err(_) => Err(OutsideFault::Memory),
-        }
+        self.files.put(piece)?;
+        Ok(piece.len())
     }
 
     fn end(&mut self) -> Result<(), Failed> {

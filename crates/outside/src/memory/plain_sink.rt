@@ -59,9 +59,7 @@ impl Sink for PlainSink {
         ensures steady { Steady (is_failed result) 0 0 }
         ensures all { IfOk result (λ n. n ≡ length piece.now) }
     {
-        if self.text.extend_from_slice(piece).is_err() {
-            return Err(OutsideFault::Memory);
-        }
+        self.text.extend_from_slice(piece)?;
         Ok(piece.len())
     }
 }

@@ -42,9 +42,7 @@ impl<R: std::rt::Files> Files for RealFiles<'_, R> {
 
     fn open_file(&mut self, name: &str) -> Result<(), OutsideFault> {
         self.reading = None;
-        if self.places.open(name).is_err() {
-            return Err(OutsideFault::Memory);
-        }
+        self.places.open(name)?;
         match fs::open(self.rt, name) {
             Ok(file) => {
                 self.reading = Some(file);
@@ -77,9 +75,7 @@ impl<R: std::rt::Files> Files for RealFiles<'_, R> {
     fn begin(&mut self, name: &str) -> Result<(), OutsideFault> {
         self.reading = None;
         self.writing = None;
-        if self.places.begin(name).is_err() {
-            return Err(OutsideFault::Memory);
-        }
+        self.places.begin(name)?;
         match fs::create(self.rt, name) {
             Ok(file) => {
                 self.writing = Some(file);

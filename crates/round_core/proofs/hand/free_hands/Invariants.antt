@@ -1,5 +1,5 @@
 use Rattle.std.proofs.Common.{◌≡◌, None, replicate}
 use Rattle.round_core.proofs.hand.free_hands.Given as goal
 
-abbrev pub invariant-loop-i : goal.invariant-loop-i
-invariant-loop-i g l = l.hands.items ≡ replicate l._i None
+abbrev pub invariant-loop-worker : goal.invariant-loop-worker
+invariant-loop-worker g l = l.hands.items ≡ replicate l.worker None
