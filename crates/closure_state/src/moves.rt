@@ -77,7 +77,8 @@ impl<'a> Moves<'a> {
         requires state { IsNodeState trie.now (words_in trie.now words.now) state.now }
         ensures entries { result.entries ≡ trie.now }
         ensures words { result.words ≡ words_in trie.now words.now }
-        ensures targets { result.left ≡ targets_at trie.now (words_in trie.now words.now) state.now }
+        ensures targets { result.left
+            ≡ targets_at trie.now (words_in trie.now words.now) state.now }
     {
         let rows = Rows::Row(Row {
             row: trie.children(state.word),

@@ -38,7 +38,9 @@ impl Strokes<'_> {
         }
     }
 
-    /// The targets by the next stroke that has some; none where no stroke is left.
+    /// The targets by the next stroke that has some; none where no stroke is left. It isn't inlined, so that a call that only
+    /// takes a target that waits saves no registers.
+    #[inline(never)]
     pub(crate) fn refill(
         &mut self,
         trie: &Trie,
