@@ -17,6 +17,6 @@ mod rule;
 mod tests;
 mod thief;
 
-pub use deque::{BatchDeque, Receipt};
+pub use deque::{BatchDeque, MOST_ROOM, Receipt};
 pub use hand::Hand;
 pub use thief::BatchThief;

@@ -1,0 +1,17 @@
+pub mod Eaches
+pub mod Spreads
+pub mod Takings
+pub mod Gathers
+pub mod Falls
+pub mod Fronts
+pub mod Counts
+pub mod Finds
+pub mod Lists
+pub mod Returns
+pub mod Turns
+pub mod Worked
+pub mod Makes
+pub mod Rises
+pub mod Rounds
+pub mod Steps
+pub mod SampleRows

@@ -1,0 +1,16 @@
+use Rattle.std.proofs.Common.{◌≡◌, ◌≤◌, ℕ, length}
+use Rattle.dist_table.specs.Tables.{TableView, PassView}
+use Rattle.steal_rounds.specs.inside.Records.{AreBlank, AreHeld, AreOffered}
+use Rattle.steal_rounds.proofs.make.hire_of.Given as goal
+
+abbrev pub invariant-loop-worker : goal.invariant-loop-worker
+invariant-loop-worker l = record {
+  count : length l.crew.items ≡ length l.initial.crew.items;
+  below : l.worker ≤ length l.crew.items;
+  blank : (t : TableView) (p : PassView) → AreBlank t p l.initial.crew.items → AreBlank t p l.crew.items;
+  offered : (b : ℕ) → AreOffered b l.initial.crew.items → AreOffered b l.crew.items;
+  held : AreHeld l.victim l.worker l.crew.items;
+}
+
+abbrev pub decreases-loop-worker : goal.decreases-loop-worker
+decreases-loop-worker l = l.worker

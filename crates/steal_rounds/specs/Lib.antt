@@ -1,0 +1,2 @@
+pub mod MadeMoves
+pub mod inside

@@ -1,0 +1,6 @@
+pub mod Lists
+pub mod Moves
+pub mod Crews
+pub mod Fronts
+pub mod Records
+pub mod Samples
