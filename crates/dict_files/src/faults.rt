@@ -3,11 +3,10 @@
 ghost use Rattle.std.specs.Prelude.{◌≡◌};
 ghost use Rattle.report.specs.Refusals.{refusal_of};
 ghost use Rattle.dict_files.specs.Loading.{dict_refusal, load_refusal};
-ghost use Rattle.dict_files.specs.inside.Conversions.{load_by_dictionary, load_by_read, load_by_stack};
+ghost use Rattle.dict_files.specs.inside.Conversions.{load_by_stack};
 
 use dict_json::DictFault;
 use dict_stack::StackFault;
-use outside::ReadFault;
 use report::FaultLine;
 use std::alloc::AllocError;
 use thiserror::Error;
@@ -47,27 +46,6 @@ impl From<StackFault> for LoadFault {
             StackFault::TooManyEntries { count } => LoadFault::Entries { count },
             StackFault::Memory => LoadFault::Memory,
         }
-    }
-}
-
-/// Why the file of this number wasn't read.
-pub(crate) fn unread(file: u32, fault: ReadFault) -> LoadFault
-    ensures { result ≡ load_by_read file fault }
-{
-    match fault {
-        ReadFault::Failed => LoadFault::Failed { file },
-        ReadFault::TooLong => LoadFault::TooLong { file },
-        ReadFault::Memory => LoadFault::Memory,
-    }
-}
-
-/// Why the bytes of the file of this number are no dictionary.
-pub(crate) fn refused(file: u32, fault: DictFault) -> LoadFault
-    ensures { result ≡ load_by_dictionary file fault }
-{
-    match fault {
-        DictFault::Memory => LoadFault::Memory,
-        fault => LoadFault::Refused { file, fault },
     }
 }
 
