@@ -3,6 +3,8 @@ use Rattle.std.proofs.Common.{ℕ, ◌≡◌, ◌≤◌, ◌<◌, ◌+◌, ◌-�
 use Rattle.std.proofs.lemmas.List.{append_assoc, get_or-map, get_or_default, length-map, map-append, take_at, take_more}
 use Rattle.outside.specs.Files.{Held, FilesView, FaultAt, IsLastOpened, LeavesFiles}
 use Rattle.outside.specs.declared.fault.Way.TheVariants.{Reading}
+use Rattle.outside.specs.declared.fault.ReadFault.{ReadFault}
+use Rattle.outside.specs.declared.fault.ReadFault.TheVariants as unread
 use Rattle.dict_json.specs.Dictionaries.{DictionaryView}
 use Rattle.dict_json.specs.Outcomes.{Outcome, dictionary, dictionary_outcome}
 use Rattle.dict_json.specs.Faults.{IsDictCause}
@@ -15,11 +17,12 @@ use Rattle.dict_files.specs.Refusals.{dictionaries_of, dictionary_in, file_refus
 use Rattle.dict_files.specs.declared.loading.TheConstants.{MAX_BYTES}
 use Rattle.dict_files.specs.Contents.{AreContents, NamesOpened, ReadingFailed, ReadsOnly, name_of_file}
 use Rattle.dict_files.specs.Loading.{IsFailed, IsLoadCause, IsLoaded, IsRefused, dict_refusal, load_refusal}
+use Rattle.dict_files.specs.inside.Conversions.{load_by_read}
 use Rattle.dict_files.specs.inside.Reading.{AreRead, IsFileCause, IsFileRefused, IsRead}
 use Rattle.dict_files.specs.declared.faults.LoadFault.{LoadFault}
 use Rattle.dict_files.specs.declared.faults.LoadFault.TheVariants as of
 use Rattle.dict_files.proofs.FirstRefusals.{dictionaries-accepted, dictionaries-entries, dictionaries-many, dictionaries-refused, first_refusal-next, first_refusal-stays}
-use Rattle.dict_files.proofs.Files.{IsSoFar, read_refused, rest_of, so_far-all, so_far-more, so_far-none, whole}
+use Rattle.dict_files.proofs.Files.{IsSoFar, read_refused, rest_of, so_far-all, so_far-more, so_far-none, too_long, whole}
 
 -- so many files were accepted, and these are their dictionaries
 pub record IsLoading (place : ℕ) (args : List (List ℕ)) (old now : FilesView) (all : List DictionaryView) : Type 0 where
@@ -146,6 +149,13 @@ loading-all args place old now all over within loading = record {
   accepted = loading.accepted;
   are = loading.read;
 }
+
+-- a file wasn't read
+pub read-cause : (file : ℕ) (name : List ℕ) (old new : FilesView) (fault : ReadFault) → (fault ≡ unread.TooLong → IfSome old.held (λ held. MAX_BYTES < length (held name))) → (fault ≡ unread.Failed → FaultAt name Reading old new)
+    → IsFileCause file name old new (load_by_read file fault)
+read-cause file name old new unread.Failed long failed = (refl, failed refl)
+read-cause file name old new unread.TooLong long failed = too_long old.held file name (long refl)
+read-cause file name old new unread.Memory long failed = tt
 
 -- the bytes of a file are refused for what they come to
 pub dict-cause : (file : ℕ) (name bytes : List ℕ) (old new : FilesView) (fault : DictFault) → IfSome old.held (λ held. bytes ≡ held name) → length bytes ≤ MAX_BYTES → (fault ≡ why.Memory → ⊥)

@@ -3,12 +3,13 @@
 ghost use Rattle.std.specs.Prelude.{◌≡◌};
 ghost use Rattle.report.specs.Refusals.{refusal_of};
 ghost use Rattle.dict_files.specs.Loading.{dict_refusal, load_refusal};
-ghost use Rattle.dict_files.specs.inside.Conversions.{load_by_stack};
+ghost use Rattle.dict_files.specs.inside.Conversions.{load_by_dictionary, load_by_read, load_by_stack};
 
 use dict_json::DictFault;
 use dict_stack::StackFault;
+use outside::ReadFault;
 use report::FaultLine;
-use std::alloc::AllocError;
+use std::alloc::{AllocError, AllocFailed};
 use thiserror::Error;
 
 /// Why some dictionaries make no stack, the first cause that holds. Files are counted from 1.
@@ -38,6 +39,16 @@ impl From<AllocError> for LoadFault {
     }
 }
 
+impl<T: Drop> From<AllocFailed<T>> for LoadFault {
+    ghost use Rattle.dict_files.specs.declared.faults.LoadFault.TheVariants.{Memory};
+
+    ghost from_gives = { λ _ fault. fault ≡ Memory };
+
+    fn from(_: AllocFailed<T>) -> LoadFault {
+        LoadFault::Memory
+    }
+}
+
 impl From<StackFault> for LoadFault {
     ghost from_gives = { λ stack fault. fault ≡ load_by_stack stack };
 
@@ -46,6 +57,27 @@ impl From<StackFault> for LoadFault {
             StackFault::TooManyEntries { count } => LoadFault::Entries { count },
             StackFault::Memory => LoadFault::Memory,
         }
+    }
+}
+
+/// Why the file of this number wasn't read.
+pub(crate) fn unread(file: u32, fault: ReadFault) -> LoadFault
+    ensures { result ≡ load_by_read file fault }
+{
+    match fault {
+        ReadFault::Failed => LoadFault::Failed { file },
+        ReadFault::TooLong => LoadFault::TooLong { file },
+        ReadFault::Memory => LoadFault::Memory,
+    }
+}
+
+/// Why the bytes of the file of this number are no dictionary.
+pub(crate) fn refused(file: u32, fault: DictFault) -> LoadFault
+    ensures { result ≡ load_by_dictionary file fault }
+{
+    match fault {
+        DictFault::Memory => LoadFault::Memory,
+        fault => LoadFault::Refused { file, fault },
     }
 }
 

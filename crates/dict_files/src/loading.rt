@@ -9,11 +9,11 @@ ghost use Rattle.dict_files.specs.Contents.{ReadsOnly};
 ghost use Rattle.dict_files.specs.Loading.{IsLoadCause, IsLoaded, is_load_failed};
 ghost use Rattle.dict_files.specs.inside.Reading.{AreRead, IsFileCause, IsRead};
 
-use crate::faults::LoadFault;
+use crate::faults::{LoadFault, refused, unread};
 use crate::names::{file_name, supplies_words};
-use dict_json::{DictFault, Dictionary, read_dictionary};
+use dict_json::{Dictionary, read_dictionary};
 use dict_stack::Stack;
-use outside::{Files, ReadFault, read_all};
+use outside::{Files, read_all};
 use std::alloc::{AllocError, Global};
 
 /// The most bytes of a dictionary's file.
@@ -36,16 +36,11 @@ fn read_file<F: Files>(
     ensures later { (F.view files.old).faults ≤ (F.view files.new).faults }
     ensures steady { Steady (is_load_failed result) (F.view files.old).faults (F.view files.new).faults }
 {
-    match read_all(alloc, files, name, MAX_BYTES) {
-        Ok(bytes) => match read_dictionary(alloc, &bytes) {
-            Ok(dictionary) => Ok(dictionary),
-            Err(DictFault::Memory) => Err(LoadFault::Memory),
-            Err(fault) => Err(LoadFault::Refused { file, fault }),
-        },
-        Err(ReadFault::Failed) => Err(LoadFault::Failed { file }),
-        Err(ReadFault::TooLong) => Err(LoadFault::TooLong { file }),
-        Err(ReadFault::Memory) => Err(LoadFault::Memory),
-    }
+    let bytes = match read_all(alloc, files, name, MAX_BYTES) {
+        Ok(bytes) => bytes,
+        Err(fault) => return Err(unread(file, fault)),
+    };
+    read_dictionary(alloc, &bytes).map_err(|fault| refused(file, fault))
 }
 
 /// The dictionaries that the arguments name, one after another.
@@ -63,9 +58,7 @@ fn read_dictionaries<F: Files>(
     let mut dictionaries = Vec::with_capacity(alloc, args.len())?;
     for (place, arg) in args.iter().enumerate() {
         let dictionary = read_file(alloc, files, file_name(arg.as_str()), place as u32 + 1)?;
-        if dictionaries.push(dictionary).is_err() {
-            return Err(LoadFault::Memory);
-        }
+        dictionaries.push(dictionary)?;
     }
     Ok(dictionaries)
 }

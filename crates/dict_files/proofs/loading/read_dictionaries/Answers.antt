@@ -30,8 +30,8 @@ returns-in_err-dictionary-clause-reads g c =
     let named = c.file_name.ensures ∙ ap (λ w. (file_of w).name) (c.as_str.ensures.value ∙ turn) in
     reads-more args c.loop-place.place _ _ _ _ _ within few named c.loop-place.invariant c.read_file.ensures.leaves c.read_file.ensures.opened c.read_file.ensures.later
 
-pub returns-then-is_err-clause-reads : goal.returns-then-is_err-clause-reads
-returns-then-is_err-clause-reads g c =
+pub returns-in_err-push-clause-reads : goal.returns-in_err-push-clause-reads
+returns-in_err-push-clause-reads g c =
     let args = map string_bytes c.args.args.now in
     let within : c.loop-place.place < length args = omega (arith, length-map c.args.args.now string_bytes, c.loop-place-test.true) in
     let few : length args ≤ most_dictionaries = omega (arith, length-map c.args.args.now string_bytes, c.requires) in
