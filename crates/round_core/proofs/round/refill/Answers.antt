@@ -2,4 +2,3 @@ use Rattle.std.proofs.Common.{◌+◌, length, [], ◌∷◌, ◌++◌, ap, arit
 use Rattle.std.proofs.lemmas.List.{length-replicate}
 use Rattle.round_core.proofs.Places.{replicate_more}
 use Rattle.round_core.proofs.round.refill.Goals as goal
-
