@@ -18,7 +18,8 @@ pub record IsShortest (entries words : List (List ℕ)) (row : Row) : Type 0 whe
   pub shown : Shows entries row.words row.entry row.place
   pub strokes : length (joined_strokes entries row.words) ≡ row.strokes
   pub least : (others : List ℕ) → AreWordNumbers entries words others
-      → Shows entries others row.entry row.place → row.strokes ≤ length (joined_strokes entries others)
+      → Shows entries others row.entry row.place
+      → row.strokes ≤ length (joined_strokes entries others)
 
 -- the order of rows: by entry, and then by place
 abbrev pub IsBefore : Row → Row → Type 0

@@ -1,2 +1,4 @@
 pub mod Refusals
 pub mod Replays
+pub mod Reports
+pub mod inside

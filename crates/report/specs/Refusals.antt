@@ -45,18 +45,24 @@ abbrev pub refusal_words : RefusalView → List (List ℕ)
 refusal_words not_words = codes "refused" ∷ codes "words" ∷ []
 refusal_words (file_failed file) = codes "failed" ∷ codes "file" ∷ decimal file ∷ []
 refusal_words certificate_failed = codes "failed" ∷ codes "certificate" ∷ []
-refusal_words (not_json file) = codes "refused" ∷ codes "file" ∷ decimal file ∷ codes "not" ∷ codes "json" ∷ []
-refusal_words (not_object file) = codes "refused" ∷ codes "file" ∷ decimal file ∷ codes "not" ∷ codes "object" ∷ []
-refusal_words (not_text file key) = codes "refused" ∷ codes "file" ∷ decimal file ∷ codes "not" ∷ codes "text" ∷ quoted key ∷ []
+refusal_words (not_json file) =
+    codes "refused" ∷ codes "file" ∷ decimal file ∷ codes "not" ∷ codes "json" ∷ []
+refusal_words (not_object file) =
+    codes "refused" ∷ codes "file" ∷ decimal file ∷ codes "not" ∷ codes "object" ∷ []
+refusal_words (not_text file key) =
+    codes "refused" ∷ codes "file" ∷ decimal file ∷ codes "not" ∷ codes "text" ∷ quoted key ∷ []
 refusal_words (too_many_dictionaries n) = codes "limit" ∷ codes "dictionaries" ∷ decimal n ∷ []
-refusal_words (too_many_bytes file) = codes "limit" ∷ codes "bytes" ∷ codes "file" ∷ decimal file ∷ []
-refusal_words (outline_too_long file key parts) = codes "limit" ∷ codes "outline" ∷ codes "file" ∷ decimal file ∷ quoted key ∷ decimal parts ∷ []
+refusal_words (too_many_bytes file) =
+    codes "limit" ∷ codes "bytes" ∷ codes "file" ∷ decimal file ∷ []
+refusal_words (outline_too_long file key parts) =
+    codes "limit" ∷ codes "outline" ∷ codes "file" ∷ decimal file ∷ quoted key ∷ decimal parts ∷ []
 refusal_words (too_many_entries n) = codes "limit" ∷ codes "entries" ∷ decimal n ∷ []
 refusal_words (too_many_nodes n) = codes "limit" ∷ codes "nodes" ∷ decimal n ∷ []
 refusal_words (too_many_states n) = codes "limit" ∷ codes "states" ∷ decimal n ∷ []
 refusal_words certificate_too_long = codes "limit" ∷ codes "certificate" ∷ []
 refusal_words no_memory = codes "memory" ∷ []
-refusal_words (rejected at reason) = codes "rejected" ∷ codes "line" ∷ decimal at ∷ why_text reason ∷ []
+refusal_words (rejected at reason) =
+    codes "rejected" ∷ codes "line" ∷ decimal at ∷ why_text reason ∷ []
 
 -- its line
 abbrev pub refusal_text : RefusalView → List ℕ
