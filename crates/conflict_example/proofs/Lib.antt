@@ -1,0 +1,11 @@
+pub mod Slots
+pub mod SettledWords
+pub mod FirstHits
+pub mod Spellings
+pub mod FoundRows
+pub mod RowSteps
+pub mod States
+pub mod Walks
+pub mod Starts
+pub mod Noted
+pub mod AtStack

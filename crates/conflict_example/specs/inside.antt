@@ -1,0 +1,5 @@
+pub mod Slots
+pub mod FirstHits
+pub mod Spellings
+pub mod FoundRows
+pub mod Closures
