@@ -1,8 +1,8 @@
 -- What is found over a numbering, told of its stack.
-use Rattle.std.proofs.Common.{◌≡◌, ◌≤◌, sym, subst, length, List, ℕ, Bool, All}
+use Rattle.std.proofs.Common.{◌≡◌, ◌≤◌, sym, subst, length, List, ℕ, All}
 use Rattle.graph_rules.specs.Graphs.{AreSettled}
 use Rattle.steno_rules.specs.ClosureGraphs.{kept_lists}
-use Rattle.steno_rules.specs.Outlines.{AreEntries, AreWords, IsOutline, flagged_entries}
+use Rattle.steno_rules.specs.Outlines.{AreEntries, AreWords, IsOutline}
 use Rattle.steno_rules.specs.StateNumbers.{number_count}
 use Rattle.steno_rules.proofs.FlaggedWords.{flagged-are}
 use Rattle.longest_match.specs.Rows.{AreConflicts, AreSmall, Row}

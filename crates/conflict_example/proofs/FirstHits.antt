@@ -1,12 +1,11 @@
 -- One number after another is noted as a hit, and what is left at the end are the chosen hits.
-use Rattle.std.proofs.Common.{◌≡◌, ◌≢◌, ℕ, suc, ◌+◌, ◌-◌, ◌*◌, ◌<◌, ◌≤◌, min, Option, None, List, [], ◌∷◌, length, get_or, refl, sym, ap, ap₂, subst, ◌∙◌, arith, inl, inr, ◌⊎◌, Some}
+use Rattle.std.proofs.Common.{◌≡◌, ◌≢◌, ℕ, ◌+◌, ◌-◌, ◌<◌, ◌≤◌, min, Option, None, List, length, get_or, sym, ap₂, subst, ◌∙◌, arith, inl, inr, ◌⊎◌, Some}
 use Rattle.std.proofs.lemmas.Bool.{cases_lt, cases_order}
 use Rattle.graph_rules.specs.Graphs.{unreached, IsBest, AreSettled}
 use Rattle.graph_rules.proofs.SettledLemmas.{best_once}
 use Rattle.steno_rules.specs.Outlines.{AreEntries, AreWords, outline_of}
-use Rattle.steno_rules.specs.Segments.{last_piece}
 use Rattle.steno_rules.specs.States.{State, IsHit, IsHitMark}
-use Rattle.steno_rules.specs.StateNumbers.{number_count, state_of_number}
+use Rattle.steno_rules.specs.StateNumbers.{number_count}
 use Rattle.steno_rules.specs.ClosureGraphs.{kept_lists}
 use Rattle.steno_rules.specs.Conflicts.{Conflict}
 use Rattle.steno_rules.proofs.Numbers.{outline_of-once}

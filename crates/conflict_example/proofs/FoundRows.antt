@@ -1,19 +1,17 @@
 -- The row of a chosen hit.
-use Rattle.std.proofs.Common.{◌≡◌, ◌≢◌, ℕ, zero, suc, ◌+◌, ◌-◌, ◌*◌, ◌<◌, ◌≤◌, ◌^◌, List, [], ◌∷◌, ◌++◌, length, map, All, refl, sym, ap, subst, ◌∙◌, arith, inl, inr, Some, None, Option, AllPairs, Contains, length-append, ◌⊎◌}
+use Rattle.std.proofs.Common.{◌≡◌, ℕ, ◌<◌, ◌≤◌, List, [], ◌∷◌, length, map, sym, ap, subst, ◌∙◌, arith, length-append}
 use Rattle.std.proofs.lemmas.List.Elements.{All-head, All-tail}
-use Rattle.graph_rules.specs.Graphs.{AreSettled, IsBest}
+use Rattle.graph_rules.specs.Graphs.{AreSettled}
 use Rattle.graph_rules.proofs.Distances.{best_below}
 use Rattle.steno_rules.specs.Outlines.{AreEntries, AreWords, entry_number, outline_of}
-use Rattle.steno_rules.specs.Conflicts.{AreEntryNumbers, AreWordNumbers, Conflict, IsLeast, IsWordNumber, Shows, outlines_of, joined_strokes}
+use Rattle.steno_rules.specs.Conflicts.{AreEntryNumbers, AreWordNumbers, IsLeast, Shows, outlines_of, joined_strokes}
 use Rattle.steno_rules.specs.ClosureGraphs.{kept_lists}
 use Rattle.steno_rules.specs.StateNumbers.{number_count}
 use Rattle.steno_rules.specs.States.{kept_targets}
-use Rattle.longest_match.specs.Rows.{IsShortest, IsSmall, Row, word_limit}
 use Rattle.closure_laws.specs.Examples.{IsChosen, example}
 use Rattle.closure_laws.proofs.ExampleLemmas.{example_numbers, example_shows}
 use Rattle.closure_laws.proofs.ChosenLemmas.{chosen_least}
 use Rattle.closure_laws.proofs.GraphLemmas.{length-lists}
-use Rattle.conflict_example.specs.Chosen.{IsChosenRow}
 use Rattle.conflict_example.specs.inside.Spellings.{numbers_among}
 use Rattle.conflict_example.specs.inside.FoundRows.{IsFoundRow}
 use Rattle.conflict_example.proofs.FirstHits.{hit_below}

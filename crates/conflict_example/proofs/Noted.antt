@@ -1,14 +1,13 @@
 -- What one reached number changes, and what the chosen hits are in the end.
-use Rattle.std.proofs.Common.{◌≡◌, ◌≢◌, ℕ, ◌+◌, ◌-◌, ◌*◌, ◌/◌, ◌%◌, ◌<◌, ◌≤◌, min, List, length, get_or, set, refl, sym, ap, subst, ◌∙◌, arith, inl, inr, ◌⊎◌, Option, Some, None}
+use Rattle.std.proofs.Common.{◌≡◌, ◌≢◌, ℕ, ◌+◌, ◌/◌, ◌%◌, ◌<◌, ◌≤◌, min, List, length, get_or, set, refl, sym, ap, subst, ◌∙◌, arith, inl, inr, Option, Some, None}
 use Rattle.std.proofs.lemmas.Nat.{div-mul-add, mod-mul-add, div-add-mod'}
 use Rattle.std.proofs.lemmas.List.{get_or-set_same, get_or-set_other, length-set}
-use Rattle.graph_rules.specs.Graphs.{unreached, IsSettledWord, AreSettled, IsBest}
-use Rattle.steno_rules.specs.Outlines.{AreEntries, AreWords, outline_of}
+use Rattle.graph_rules.specs.Graphs.{unreached, IsSettledWord, IsBest}
+use Rattle.steno_rules.specs.Outlines.{AreEntries, outline_of}
 use Rattle.steno_rules.specs.ClosureGraphs.{kept_lists}
 use Rattle.steno_rules.specs.Conflicts.{Conflict}
 use Rattle.steno_rules.specs.StateNumbers.{number_count, state_of_number}
 use Rattle.steno_rules.specs.States.{State, IsHit, IsHitMark, kept_targets}
-use Rattle.closure_laws.specs.NumberedHits.{IsHitNumber}
 use Rattle.closure_laws.proofs.GraphLemmas.{length-lists}
 use Rattle.closure_laws.specs.Examples.{example}
 use Rattle.state_numbering.specs.Numberings.{NumberingView}

@@ -1,16 +1,15 @@
 -- One pair after another gets its row, where it is a conflict.
-use Rattle.std.proofs.Common.{◌≡◌, ◌≢◌, ℕ, zero, suc, ◌+◌, ◌-◌, ◌*◌, ◌<◌, ◌≤◌, ◌^◌, List, [], ◌∷◌, ◌++◌, length, All, AllPairs, Contains, refl, sym, ap, subst, ◌∙◌, arith, inl, inr, ◌⊎◌, get_or}
-use Rattle.std.proofs.lemmas.Bool.{cases_lt, cases_order}
+use Rattle.std.proofs.Common.{◌≡◌, ℕ, ◌+◌, ◌<◌, ◌≤◌, List, [], ◌∷◌, ◌++◌, length, All, sym, ap, subst, ◌∙◌, arith, inl, inr, ◌⊎◌, get_or}
+use Rattle.std.proofs.lemmas.Bool.{cases_lt}
 use Rattle.std.proofs.Math.ListN.{get_or-eq_default}
 use Rattle.std.proofs.lemmas.List.{length_push}
 use Rattle.std.proofs.lemmas.List.Elements.{All-push, Contains-append_left, Contains-push}
 use Rattle.std.proofs.lemmas.List.Quantifiers.{all_pairs_push}
 use Rattle.steno_rules.specs.Outlines.{IsOutline, outline_of}
 use Rattle.steno_rules.specs.Conflicts.{Conflict}
-use Rattle.longest_match.specs.Rows.{AreConflicts, AreSmall, HasRow, IsBefore, IsShortest, IsSmall, Row, row_limit}
-use Rattle.conflict_example.specs.Chosen.{AreChosen, IsChosenRow}
+use Rattle.longest_match.specs.Rows.{AreConflicts, AreSmall, IsBefore, Row}
+use Rattle.conflict_example.specs.Chosen.{AreChosen}
 use Rattle.conflict_example.specs.inside.FoundRows.{AreRowsBefore, IsFoundRow, IsPairBefore}
-use Rattle.conflict_example.specs.inside.Slots.{first_slot, slot_of}
 use Rattle.conflict_example.proofs.Slots.{few_slots, next_slots}
 
 -- Before the first pair there is no row.

@@ -1,7 +1,7 @@
 -- What a settled word tells: whether its number was reached, its distance, and the number before it.
-use Rattle.std.proofs.Common.{◌≡◌, ◌≢◌, ℕ, zero, suc, ◌+◌, ◌*◌, ◌/◌, ◌%◌, ◌<◌, ◌≤◌, List, length, slice_index, refl, sym, ap, subst, ◌∙◌, arith, inl, inr}
+use Rattle.std.proofs.Common.{◌≡◌, ◌≢◌, ℕ, suc, ◌+◌, ◌/◌, ◌%◌, ◌<◌, ◌≤◌, List, length, sym, ap, subst, ◌∙◌, arith, inl, inr}
 use Rattle.std.proofs.lemmas.Nat.{div-mul-add, mod-mul-add}
-use Rattle.graph_rules.specs.Graphs.{moved, unreached, HasTarget, IsBest, IsSource, IsSettledWord, AreSettled}
+use Rattle.graph_rules.specs.Graphs.{moved, unreached, IsBest, IsSource, IsSettledWord}
 use Rattle.graph_rules.proofs.Distances.{source_below}
 use Rattle.graph_rules.proofs.SettledLemmas.{best_once}
 use Rattle.closure_laws.specs.Examples.{source_of}

@@ -1,12 +1,11 @@
 -- The words of a walk back, one state after another.
-use Rattle.std.proofs.Common.{◌≡◌, ◌≢◌, ℕ, zero, suc, ◌+◌, ◌-◌, ◌<◌, ◌≤◌, List, [], ◌∷◌, ◌++◌, length, map, All, Bool, true, false, cond, nat_eq, refl, sym, ap, ap₂, subst, ◌∙◌, arith, Some, None, Option, append-nil, append_assoc}
+use Rattle.std.proofs.Common.{◌≡◌, ℕ, List, [], ◌∷◌, ◌++◌, length, map, Bool, true, false, cond, nat_eq, refl, sym, ap, ap₂, ◌∙◌, Some, Option, append-nil, append_assoc}
 use Rattle.std.proofs.lemmas.List.Elements.{All-head, All-tail}
-use Rattle.steno_rules.specs.Outlines.{AreEntries, entry_number, outline_of}
+use Rattle.steno_rules.specs.Outlines.{AreEntries, entry_number}
 use Rattle.steno_rules.specs.Conflicts.{AreWordNumbers, IsWordNumber, outlines_of}
 use Rattle.steno_rules.specs.States.{State}
-use Rattle.steno_rules.specs.StateNumbers.{longer, state_of_number}
 use Rattle.steno_rules.proofs.Numbers.{entry_number-outline_of}
-use Rattle.closure_laws.specs.Examples.{example, last_stroke, open_after, or_fresh, source_of, trail, words_after}
+use Rattle.closure_laws.specs.Examples.{example, last_stroke, open_after, trail, words_after}
 use Rattle.conflict_example.specs.inside.Spellings.{IsSpelling, if_there, made_after, numbered_state, numbers_among, opened}
 
 -- numbers of two lists, one behind the other

@@ -1,10 +1,10 @@
 -- What a numbering tells of a number's state.
-use Rattle.std.proofs.Common.{◌≡◌, ◌≢◌, ℕ, zero, suc, ◌-◌, ◌<◌, ◌≤◌, List, [], ◌∷◌, ◌++◌, length, drop, true, false, nat_eq, nat_le, cond, Bool, Option, Some, None, refl, sym, ap, ◌∙◌, arith}
+use Rattle.std.proofs.Common.{◌≡◌, ℕ, zero, suc, ◌-◌, ◌<◌, List, [], ◌∷◌, ◌++◌, length, drop, false, nat_eq, Option, Some, None, refl, sym, ap, ◌∙◌, arith}
 use Rattle.std.proofs.lemmas.Bool.Decides.{nat_tests}
 use Rattle.std.proofs.lemmas.List.{drop_at, length_push}
 use Rattle.steno_rules.specs.Nodes.{nodes}
 use Rattle.steno_rules.specs.Outlines.{outline_of}
-use Rattle.steno_rules.specs.States.{State as Abstract, fresh}
+use Rattle.steno_rules.specs.States.{State as Abstract}
 use Rattle.steno_rules.specs.StateNumbers.{longer, state_of_number}
 use Rattle.steno_rules.proofs.Lists.{unsnoc}
 use Rattle.steno_rules.proofs.NodeLemmas.{nodes-first, nodes-rising}

@@ -1,5 +1,5 @@
 -- A walk back, one number after another.
-use Rattle.std.proofs.Common.{◌≡◌, ℕ, zero, suc, ◌+◌, ◌-◌, ◌<◌, ◌≤◌, List, [], ◌∷◌, ◌++◌, length, slice_index, refl, sym, ap, subst, ◌∙◌, arith, append_assoc, append-nil}
+use Rattle.std.proofs.Common.{◌≡◌, ℕ, zero, suc, ◌+◌, ◌-◌, ◌<◌, ◌≤◌, List, [], ◌∷◌, ◌++◌, slice_index, sym, ap, subst, ◌∙◌, arith, append_assoc, append-nil}
 use Rattle.graph_rules.specs.Graphs.{IsBest}
 use Rattle.closure_laws.specs.Examples.{source_of, trail}
 use Rattle.conflict_example.specs.inside.Closures.{IsWalkEnd}

@@ -62,10 +62,12 @@ fn text_of(rt: &impl Abort, alloc: Global, rows: &[Conflict]) -> String {
     let mut text = String::new(alloc);
     for row in rows {
         let head = format!(in alloc; "{} {} {}:", row.entry(), row.place(), row.strokes());
-        text.push_str(&head.expect(rt, "memory")).expect(rt, "memory");
+        text.push_str(&head.expect(rt, "memory"))
+            .expect(rt, "memory");
         for word in row.words() {
             let number = format!(in alloc; " {word}");
-            text.push_str(&number.expect(rt, "memory")).expect(rt, "memory");
+            text.push_str(&number.expect(rt, "memory"))
+                .expect(rt, "memory");
         }
         text.push_str(", ").expect(rt, "memory");
     }
@@ -77,9 +79,16 @@ fn check(rt: &impl Abort, word_file: &str, match_file: &str, alloc: Global, expe
     let stack = stack_of(rt, alloc, word_file, match_file);
     let rows = found(rt, alloc, &stack);
     for row in &rows {
-        assert!(rt; is_shown(rt, alloc, &stack, row), "a row's words don't show its pair");
+        assert!(rt;
+            is_shown(rt, alloc, &stack, row),
+            "a row's words don't show its pair"
+        );
     }
-    assert_eq!(rt; text_of(rt, alloc, &rows).as_str(), expected, "of {word_file}");
+    assert_eq!(rt;
+        text_of(rt, alloc, &rows).as_str(),
+        expected,
+        "of {word_file}"
+    );
 }
 
 #[test]

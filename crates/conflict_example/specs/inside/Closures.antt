@@ -1,12 +1,11 @@
 -- What the conflicts are found from.
 --     IsClosure v table              the settled words of a numbering
 --     IsWalkEnd table number n       a shortest walk of n moves ends at the number
-use Rattle.std.specs.Prelude.{ℕ, ◌≡◌, ◌<◌, ◌≤◌, List, length}
+use Rattle.std.specs.Prelude.{ℕ, ◌<◌, ◌≤◌, List, length}
 use Rattle.graph_rules.specs.Graphs.{AreSettled, IsBest}
 use Rattle.steno_rules.specs.ClosureGraphs.{kept_lists}
 use Rattle.steno_rules.specs.Outlines.{AreEntries, AreWords}
 use Rattle.steno_rules.specs.StateNumbers.{number_count}
-use Rattle.dict_stack.specs.Stacks.{StackView}
 use Rattle.state_numbering.specs.Causes.{most_states}
 use Rattle.state_numbering.specs.Numberings.{NumberingView}
 

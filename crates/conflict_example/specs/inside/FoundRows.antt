@@ -1,7 +1,7 @@
 -- The rows of the conflicts before a pair, in the order of the pairs.
 --     IsFoundRow entries words table row                   the row of a conflict, with its chosen example
 --     AreRowsBefore entries words table e place rows       the rows of all conflicts before the pair of e and the place
-use Rattle.std.specs.Prelude.{ℕ, ◌≡◌, ◌+◌, ◌<◌, ◌≤◌, ◌⊎◌, List, All, AllPairs, length}
+use Rattle.std.specs.Prelude.{ℕ, ◌≡◌, ◌<◌, ◌≤◌, ◌⊎◌, List, All, AllPairs, length}
 use Rattle.steno_rules.specs.Conflicts.{Conflict}
 use Rattle.longest_match.specs.Rows.{HasRow, IsBefore, IsShortest, IsSmall, Row}
 use Rattle.conflict_example.specs.Chosen.{IsChosenRow}

@@ -1,5 +1,5 @@
 use Rattle.std.proofs.Common.{◌++◌, ap, append-nil, sym, ◌∙◌}
-use Rattle.conflict_example.proofs.States.{stroke_is, stroke_none}
+use Rattle.conflict_example.proofs.States.{stroke_none}
 use Rattle.conflict_example.proofs.examples.push_stroke.Goals as goal
 
 pub returns-in-None : goal.returns-in-None

@@ -1,4 +1,4 @@
-use Rattle.std.proofs.Common.{◌≡◌, ◌+◌, ◌<◌, arith, subst, get_or, length, ℕ}
+use Rattle.std.proofs.Common.{◌≡◌, ◌<◌, arith, subst, get_or, length, ℕ}
 use Rattle.conflict_example.specs.inside.FirstHits.{AreFirst}
 use Rattle.conflict_example.proofs.Noted.{graph_count, passed}
 use Rattle.conflict_example.proofs.hits.first_hits.Goals as goal

@@ -1,4 +1,4 @@
-use Rattle.std.proofs.Common.{◌≡◌, ◌+◌, ◌-◌, ◌*◌, ◌/◌, get_or, arith, refl, ap, ◌∙◌, ℕ, rules}
+use Rattle.std.proofs.Common.{◌≡◌, ◌+◌, ◌-◌, ◌*◌, ◌/◌, get_or, arith, ap}
 use Rattle.conflict_example.proofs.Noted.{noted, not_noted}
 use Rattle.conflict_example.specs.inside.Slots.{slot_of}
 use Rattle.conflict_example.proofs.hits.note.Goals as goal

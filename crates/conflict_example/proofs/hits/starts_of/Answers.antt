@@ -1,8 +1,8 @@
-use Rattle.std.proofs.Common.{◌≡◌, ◌∙◌, arith, ap, length, get_or, rules}
+use Rattle.std.proofs.Common.{◌≡◌, ◌∙◌, arith, ap, length}
 use Rattle.std.proofs.lemmas.List.{get_or_read}
 use Rattle.steno_rules.specs.Outlines.{outline_of}
 use Rattle.conflict_example.specs.inside.Slots.{inner_places}
-use Rattle.conflict_example.proofs.Starts.{start_small, starts_more, starts_all}
+use Rattle.conflict_example.proofs.Starts.{start_small}
 use Rattle.conflict_example.proofs.hits.starts_of.Goals as goal
 
 pub overflow_add-end : goal.overflow_add-end

@@ -1,10 +1,8 @@
-use Rattle.std.proofs.Common.{◌≡◌, ◌≢◌, ◌<◌, ◌≤◌, ◌+◌, ◌-◌, ◌∙◌, sym, ap, subst, arith, get_or, length, List, ℕ}
-use Rattle.graph_rules.specs.Graphs.{unreached}
+use Rattle.std.proofs.Common.{◌≡◌, ◌+◌, ◌-◌, ◌∙◌, sym, ap, arith, get_or, length, List, ℕ}
 use Rattle.steno_rules.specs.Outlines.{outline_of}
-use Rattle.conflict_example.specs.inside.FirstHits.{IsFirstHit, IsFirstOf}
 use Rattle.conflict_example.specs.inside.Slots.{IsInside, slot_of}
-use Rattle.conflict_example.proofs.Noted.{slot_hit, slot_none}
-use Rattle.conflict_example.proofs.RowSteps.{rows_with, rows_without, rows_on}
+use Rattle.conflict_example.proofs.Noted.{slot_none}
+use Rattle.conflict_example.proofs.RowSteps.{rows_with, rows_without}
 use Rattle.conflict_example.proofs.rows.push_rows.Goals as goal
 use Rattle.conflict_example.proofs.rows.push_rows.Goals.{then-hit+in_ok-row+in_ok-push, else-hit}
 

@@ -1,6 +1,4 @@
-use Rattle.std.proofs.Common.{◌≡◌, ◌<◌, sym, subst, length, List, ℕ}
-use Rattle.longest_match.specs.Rows.{Row}
-use Rattle.conflict_example.specs.inside.FoundRows.{IsFoundRow}
+use Rattle.std.proofs.Common.{◌<◌, sym, subst, length, List, ℕ}
 use Rattle.conflict_example.proofs.Noted.{row_of_hit, walk_of_hit}
 use Rattle.conflict_example.proofs.rows.row.Goals as goal
 
