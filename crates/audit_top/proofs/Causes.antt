@@ -1,16 +1,19 @@
 -- When the expected status of each command may be which.
+use Rattle.longest_match.specs.Rows.{Row}
+use Rattle.state_numbering.specs.Causes.{most_states}
+use Rattle.steno_rules.specs.StateNumbers.{number_count}
 use Rattle.std.proofs.Common.{ℕ, ◌+◌, ◌≡◌, ◌⊎◌, inl, inr, List, [], ◌∷◌, Bool, true, false, cond, nat_lt, length, sym, subst, refl, Option, Some, None, IfSome}
 use Rattle.dict_json.specs.Outcomes.{Outcome, dictionary_outcome}
 use Rattle.dict_json.specs.Outcomes as of
 use Rattle.dict_stack.specs.Stacks.{StackView, most_dictionaries, most_entries}
 use Rattle.steno_rules.specs.Nodes.{nodes}
 use Rattle.outline_trie.specs.declared.trie.TheConstants.Trie.{MAX_NODES}
-use Rattle.report.specs.Refusals.{RefusalView, refusal_text, not_words, too_many_dictionaries, too_many_bytes, too_many_entries, too_many_nodes}
+use Rattle.report.specs.Refusals.{RefusalView, refusal_text, too_many_dictionaries, too_many_bytes, too_many_entries, too_many_nodes, too_many_states}
 use Rattle.dict_files.specs.Refusals.{dictionaries_refusal, file_refusal, first_of, first_refusal, if_over, outcome_refusal, outline_count, stack_from}
 use Rattle.dict_files.specs.declared.loading.TheConstants.{MAX_BYTES}
-use Rattle.audit_top.specs.Commands.{CommandView, replay, generate, checks, finds}
-use Rattle.audit_top.specs.Expected.{Expected, Inputs, IsExpected, IsReplay, OverStack, UnlessRefused, prints, refused, trie_limit}
-use Rattle.audit_top.specs.Statuses.{refusal_status}
+use Rattle.audit_top.specs.Commands.{CommandView, replay, generate, checks, finds, audit}
+use Rattle.audit_top.specs.Expected.{Expected, Inputs, IsExpected, IsReplay, OverStack, UnlessRefused, prints, trie_limit, IsAudit, search_limit}
+use Rattle.audit_top.specs.Statuses.{audit_status, refusal_status}
 use Rattle.audit_top.specs.declared.status.Status.{Status}
 use Rattle.audit_top.specs.declared.status.Status.TheVariants.{Clean, Conflicts, Words, File, Refused, Limit, Output, Rejected}
 
@@ -55,6 +58,9 @@ input-dictionaries args contents =
 pub input-trie : (stack : StackView) → IfSome (trie_limit stack) IsInput
 input-trie stack = input-over MAX_NODES too_many_nodes (length (nodes stack.outlines)) (inr refl)
 
+pub input-search : (stack : StackView) → IfSome (search_limit stack) IsInput
+input-search stack = input-first (trie_limit stack) _ (input-trie stack) (input-over most_states too_many_states (number_count stack.outlines) (inr refl))
+
 -- ---- statuses
 
 -- the statuses that a command may be expected to end with
@@ -85,9 +91,24 @@ fits-over command limit Follows args contents result input follows is =
     fits-unless command (first_of (dictionaries_refusal args contents) (limit (stack_from args contents))) (Follows (stack_from args contents)) result
     (input-first (dictionaries_refusal args contents) (limit (stack_from args contents)) (input-dictionaries args contents) (input (stack_from args contents))) (follows (stack_from args contents)) is
 
+fits-found : (command : Option CommandView) (text : List ℕ) → finds command ≡ true → Fits command (prints Conflicts text)
+fits-found command text finds = record { found = λ e. finds; arguments = λ e. absurd cc; file = λ e. cc; output = λ e. cc; rejected = λ e. absurd cc }
+
+fits-audit : (workers : ℕ) (dicts : List (List ℕ)) (text : List ℕ) (rows : List Row) → Fits (Some (audit workers dicts)) (prints (audit_status rows) text)
+fits-audit workers dicts text [] = fits-clean (Some (audit workers dicts)) text
+fits-audit workers dicts text (row ∷ rows) = fits-found (Some (audit workers dicts)) text refl
+
 pub fits : (inputs : Inputs) (command : Option CommandView) (result : Expected) → IsExpected inputs command result → Fits command result
 fits inputs None result is = subst (λ (r : Expected). Fits None r) (sym is) (record { found = λ e. absurd cc; arguments = λ e. refl; file = λ e. cc; output = λ e. cc; rejected = λ e. absurd cc })
 fits inputs (Some (replay outline dicts)) result is =
     fits-over (Some (replay outline dicts)) trie_limit (IsReplay outline) dicts inputs.dictionaries result input-trie
     (λ s r e. subst (λ (r : Expected). Fits (Some (replay outline dicts)) r) (sym e) (fits-clean (Some (replay outline dicts)) _)) is
+fits inputs (Some (audit workers dicts)) result is =
+    fits-over (Some (audit workers dicts)) search_limit IsAudit dicts inputs.dictionaries result input-search
+    (λ s r e. subst (λ (r : Expected). Fits (Some (audit workers dicts)) r) (sym e.produces) (fits-audit workers dicts _ e.rows)) is
 fits inputs (Some (generate start count)) result is = subst (λ (r : Expected). Fits (Some (generate start count)) r) (sym is) (fits-clean (Some (generate start count)) _)
+
+-- ---- for the headline
+
+pub input-over_search : (dicts contents : List (List ℕ)) → IfSome (first_of (dictionaries_refusal dicts contents) (search_limit (stack_from dicts contents))) IsInput
+input-over_search dicts contents = input-first (dictionaries_refusal dicts contents) (search_limit (stack_from dicts contents)) (input-dictionaries dicts contents) (input-search (stack_from dicts contents))

@@ -1,13 +1,14 @@
 -- The arguments that the function takes for a command are those that are written so.
 use Rattle.std.proofs.Common.{ℕ, ◌-◌, ◌<◌, ◌≤◌, ◌≡◌, ◌^◌, ◌∙◌, List, [], ◌∷◌, Bool, true, false, true≢false, cond, refl, subst, sym, ap, ap₂, arith, Option, Some, None}
-use Rattle.std.specs.Prelude.{option_and_then, codes, decimal, ◌&&◌, nat_le, nat_lt}
+use Rattle.std.specs.Prelude.{option_and_then, codes}
 use Rattle.std.specs.Str.{bytes_eq}
 use Rattle.std.proofs.lemmas.Bool.Decides.{nat_tests}
 use Rattle.std.proofs.lemmas.Slice.Eq.{bytes_eq-Decides}
 use Rattle.text_rules.specs.Decimals.{decimal_value}
 use Rattle.text_rules.proofs.Numbers.{decimal-number, number-decimal}
 use Rattle.dict_json.specs.Generated.{most_generated}
-use Rattle.audit_top.specs.Commands.{CommandView, IsCommand, arguments_of, command_of, generate, generate_of, if_valid, is_valid, replay, replay_of}
+use Rattle.steal_rounds.specs.declared.searches.TheConstants.{MAX_WORKERS}
+use Rattle.audit_top.specs.Commands.{CommandView, IsCommand, arguments_of, command_of, generate, generate_of, if_valid, is_valid, replay, replay_of, audit, audit_of}
 
 valid_is : (c d : CommandView) → if_valid c ≡ Some d → (c ≡ d) × (is_valid d ≡ true)
 valid_is c d h = by (is_valid c) refl h
@@ -21,6 +22,17 @@ valid_is c d h = by (is_valid c) refl h
 replay_written : (args : List (List ℕ)) (c : CommandView) → replay_of args ≡ Some c → IsCommand (codes "replay" ∷ args) c
 replay_written [] c h = absurd (true≢false cc)
 replay_written (outline ∷ dicts) c h = let v = valid_is (replay outline dicts) c h in (ap arguments_of v.0, v.1)
+
+audit_written : (args : List (List ℕ)) (c : CommandView) → audit_of args ≡ Some c → IsCommand (codes "audit" ∷ args) c
+audit_written [] c h = absurd (true≢false cc)
+audit_written (workers ∷ dicts) c h = by (decimal_value MAX_WORKERS workers) refl h
+  where
+    by : (n : Option ℕ) → decimal_value MAX_WORKERS workers ≡ n → option_and_then (λ n. if_valid (audit n dicts)) n ≡ Some c → IsCommand (codes "audit" ∷ workers ∷ dicts) c
+    by None is h = absurd (true≢false cc)
+    by (Some n) is h =
+        let v = valid_is (audit n dicts) c h in
+        let read = number-decimal MAX_WORKERS n workers (omega arith) is in
+        (ap (λ w. codes "audit" ∷ w ∷ dicts) read.0 ∙ ap arguments_of v.0, v.1)
 
 generate_written : (args : List (List ℕ)) (c : CommandView) → generate_of args ≡ Some c → IsCommand (codes "generate" ∷ args) c
 generate_written [] c h = absurd (true≢false cc)
@@ -39,21 +51,25 @@ generate_written (start ∷ count ∷ more ∷ args) c h = absurd (true≢false 
 
 pub command-written : (args : List (List ℕ)) (c : CommandView) → command_of args ≡ Some c → IsCommand args c
 command-written [] c h = absurd (true≢false cc)
-command-written (name ∷ args) c h = by (bytes_eq name (codes "replay")) (bytes_eq name (codes "generate")) refl refl h
+command-written (name ∷ args) c h = by (bytes_eq name (codes "replay")) (bytes_eq name (codes "audit")) (bytes_eq name (codes "generate")) refl refl refl h
   where
     named : (text : List ℕ) → bytes_eq name text ≡ true → IsCommand (text ∷ args) c → IsCommand (name ∷ args) c
     named text test is = subst (λ n. IsCommand (n ∷ args) c) (sym ((bytes_eq-Decides name text).0 test)) is
 
-    by : (r g : Bool) → bytes_eq name (codes "replay") ≡ r → bytes_eq name (codes "generate") ≡ g
-        → cond r (replay_of args) (cond g (generate_of args) None) ≡ Some c → IsCommand (name ∷ args) c
-    by true g is_r is_g h = named (codes "replay") is_r (replay_written args c h)
-    by false true is_r is_g h = named (codes "generate") is_g (generate_written args c h)
-    by false false is_r is_g h = absurd (true≢false cc)
+    by : (r a g : Bool) → bytes_eq name (codes "replay") ≡ r → bytes_eq name (codes "audit") ≡ a → bytes_eq name (codes "generate") ≡ g
+        → cond r (replay_of args) (cond a (audit_of args) (cond g (generate_of args) None)) ≡ Some c → IsCommand (name ∷ args) c
+    by true a g is_r is_a is_g h = named (codes "replay") is_r (replay_written args c h)
+    by false true g is_r is_a is_g h = named (codes "audit") is_a (audit_written args c h)
+    by false false true is_r is_a is_g h = named (codes "generate") is_g (generate_written args c h)
+    by false false false is_r is_a is_g h = absurd (true≢false cc)
 
 -- ---- and what is written so is taken
 
 if_valid-is : (c : CommandView) → is_valid c ≡ true → if_valid c ≡ Some c
 if_valid-is c valid = rw valid refl
+
+workers_few : (workers : ℕ) (dicts : List (List ℕ)) → is_valid (audit workers dicts) ≡ true → workers ≤ MAX_WORKERS
+workers_few workers dicts valid = grind (arith, nat_tests)
 
 start_few : (start count : ℕ) → is_valid (generate start count) ≡ true → start < 2 ^ 64
 start_few start count valid = grind (arith, nat_tests)
@@ -63,6 +79,9 @@ count_few start count valid = grind (arith, nat_tests)
 
 command_is : (c : CommandView) → is_valid c ≡ true → command_of (arguments_of c) ≡ Some c
 command_is (replay outline dicts) valid = if_valid-is (replay outline dicts) valid
+command_is (audit workers dicts) valid =
+    let few = workers_few workers dicts valid in
+    ap (option_and_then (λ n. if_valid (audit n dicts))) (decimal-number MAX_WORKERS workers few (omega arith)) ∙ if_valid-is (audit workers dicts) valid
 command_is (generate start count) valid =
     let few_s = start_few start count valid in
     let few_n = count_few start count valid in
@@ -71,3 +90,10 @@ command_is (generate start count) valid =
 
 pub written-command : (args : List (List ℕ)) (c : CommandView) → IsCommand args c → command_of args ≡ Some c
 written-command args c is = ap command_of is.0 ∙ command_is c is.1
+
+-- the workers of a valid audit
+pub workers-some : (workers : ℕ) (dicts : List (List ℕ)) → is_valid (audit workers dicts) ≡ true → 1 ≤ workers
+workers-some workers dicts valid = grind (arith, nat_tests)
+
+pub workers-few : (workers : ℕ) (dicts : List (List ℕ)) → is_valid (audit workers dicts) ≡ true → workers ≤ MAX_WORKERS
+workers-few workers dicts valid = workers_few workers dicts valid

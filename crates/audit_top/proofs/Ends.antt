@@ -1,5 +1,5 @@
 -- How a run ends whose command has answered.
-use Rattle.std.proofs.Common.{ℕ, ◌≡◌, ◌≤◌, ◌∙◌, ◌⊎◌, inl, inr, List, ◌++◌, ap, sym, subst, refl, arith, length, take, Option, Some, None, Result, Ok, Err, true}
+use Rattle.std.proofs.Common.{ℕ, ◌≡◌, ◌∙◌, ◌⊎◌, inl, inr, List, ◌++◌, ap, sym, subst, refl, length, take, Option, Some, None, Result, Ok, Err, true}
 use Rattle.std.specs.Io.KnownBytes.{append_known}
 use Rattle.std.proofs.Math.Seq.{take-length}
 use Rattle.outside.specs.Faults.{Rose}
@@ -7,11 +7,11 @@ use Rattle.outside.specs.Files.{FilesView}
 use Rattle.outside.proofs.Known.{append_known-append, append_known-empty}
 use Rattle.report.specs.Refusals.{RefusalView, refusal_text, no_memory, file_failed, not_words, certificate_failed, not_json, not_object, not_text, too_many_dictionaries, too_many_bytes, outline_too_long, too_many_entries, too_many_nodes, too_many_states, certificate_too_long, rejected}
 use Rattle.audit_top.specs.Commands.{CommandView, checks, dictionaries_in, finds}
-use Rattle.audit_top.specs.Expected.{Expected, Inputs, IsExpected, Written}
-use Rattle.audit_top.specs.Runs.{AddsPart, Ends, EndsAsExpected, EndsCut, EndsWhole, FileFailed, IsFailure, IsFilePart, IsRun, MayProduce, NoFault, OutputView, PutsFailure, World}
+use Rattle.audit_top.specs.Expected.{Expected, Inputs, Written}
+use Rattle.audit_top.specs.Runs.{AddsPart, Ends, EndsAsExpected, EndsWhole, FileFailed, IsFailure, IsFilePart, IsRun, MayProduce, NoFault, OutputView, PutsFailure, World}
 use Rattle.audit_top.specs.Statuses.{refusal_status}
 use Rattle.audit_top.specs.inside.Answers.{Begins, Begun, IsAnswer, IsAnswered, IsStopped, Refuses}
-use Rattle.audit_top.specs.inside.Endings.{CutsLine, EndsLine, EndsMemory, EndsStop, Fails, Finishes, PutsLine}
+use Rattle.audit_top.specs.inside.Endings.{EndsLine, EndsMemory, EndsStop, Finishes}
 use Rattle.audit_top.specs.inside.Stops.{Stop, by_memory, by_output, by_refusal, stop_of}
 use Rattle.audit_top.specs.declared.refusals.Refusal.{Refusal}
 use Rattle.audit_top.specs.declared.status.Status.{Status}
@@ -134,7 +134,7 @@ failure_fits command inputs old new certificate_too_long failed = absurd failed
 failure_fits command inputs old new no_memory failed = absurd failed
 failure_fits command inputs old new (rejected at why) failed = absurd failed
 
-status-failed : (command : Option CommandView) (inputs : Inputs) (old new : FilesView) (result : Expected) → IsFailure command inputs old new result → result.status ≡ File
+pub status-failed : (command : Option CommandView) (inputs : Inputs) (old new : FilesView) (result : Expected) → IsFailure command inputs old new result → result.status ≡ File
 status-failed command inputs old new result failure = failure.status_is ∙ (failure_fits command inputs old new failure.refusal failure.failed).0
 
 -- a run that is cut off has no other status

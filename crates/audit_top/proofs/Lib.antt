@@ -5,5 +5,6 @@ pub mod Causes
 pub mod Stops
 pub mod Stacks
 pub mod Ends
+pub mod Headlines
 pub mod Reports
 pub mod Unique

@@ -2,21 +2,20 @@
 use Rattle.std.proofs.Common.{ℕ, ◌≡◌, ◌<◌, ◌≤◌, ◌∙◌, ◌⊎◌, inl, inr, List, [], ap, sym, subst, refl, arith, length, map, Option, Some, None, Result, Ok, Err, Bool, true, false, true≢false, cond, nat_le, nat_lt}
 use Rattle.std.proofs.lemmas.Bool.Decides.{nat_tests}
 use Rattle.std.proofs.lemmas.List.{length-map}
-use Rattle.outside.specs.Faults.{Steady}
-use Rattle.outside.specs.Files.{Held, FilesView, LeavesFiles}
+use Rattle.outside.specs.Files.{Held, FilesView}
 use Rattle.dict_stack.specs.Stacks.{StackView, most_dictionaries, most_entries}
 use Rattle.report.specs.Refusals.{RefusalView, file_failed, not_words, too_many_dictionaries, too_many_entries}
 use Rattle.dict_json.specs.declared.faults.DictFault.TheVariants as why
 use Rattle.dict_files.specs.Refusals.{dictionaries_refusal, first_of, first_refusal, if_over, outline_count, stack_from}
 use Rattle.dict_files.specs.Contents.{AreContents, NamesOpened, ReadingFailed, ReadsOnly}
 use Rattle.dict_files.specs.DictFiles.{bytes_of, file_of}
-use Rattle.dict_files.specs.Loading.{IsFailed, IsLoadCause, IsLoaded, IsRefused, is_load_failed, load_refusal}
+use Rattle.dict_files.specs.Loading.{IsFailed, IsLoadCause, IsLoaded, IsRefused, is_load_failed}
 use Rattle.dict_files.specs.declared.faults.LoadFault.{LoadFault}
 use Rattle.dict_files.specs.declared.faults.LoadFault.TheVariants as load
-use Rattle.audit_top.specs.Commands.{CommandView, dictionaries_in, reads_files, replay}
-use Rattle.audit_top.specs.Expected.{Expected, Inputs, IsExpected, IsReplay, OverStack, UnlessRefused, refused, trie_limit}
-use Rattle.audit_top.specs.Runs.{AreInputs, EndsWhole, FailsNamed, FileFailed, MayProduce, OpensNamed, OutputView, SomeFileFailed, World, Writes}
-use Rattle.audit_top.specs.inside.Answers.{Answers, Begun, IsAnswer, IsAnswered, IsStopped, RanOut, Refuses, Stops, needs_memory}
+use Rattle.audit_top.specs.Commands.{CommandView, dictionaries_in, reads_files, replay, audit}
+use Rattle.audit_top.specs.Expected.{Expected, Inputs, IsExpected, IsReplay, OverStack, UnlessRefused, refused, trie_limit, IsAudit, search_limit}
+use Rattle.audit_top.specs.Runs.{AreInputs, FailsNamed, MayProduce, OpensNamed, OutputView, World, Writes}
+use Rattle.audit_top.specs.inside.Answers.{Answers, IsAnswer, IsAnswered, IsStopped, Stops, needs_memory}
 use Rattle.audit_top.specs.inside.Stops.{Stop, by_memory, by_output, by_refusal, refusal_of_load, stop_of}
 use Rattle.audit_top.specs.declared.refusals.Refusal.{Refusal}
 use Rattle.audit_top.specs.declared.refusals.Refusal.TheVariants as of
@@ -220,3 +219,6 @@ no-command files out = record {
 -- the commands
 pub is-replay : (outline : List ℕ) (dicts : List (List ℕ)) → IsOver (Some (replay outline dicts)) dicts trie_limit (IsReplay outline)
 is-replay outline dicts = record { dictionaries = refl; reads = refl; needs = refl; expected = λ inputs r is. is }
+
+pub is-audit : (workers : ℕ) (dicts : List (List ℕ)) → IsOver (Some (audit workers dicts)) dicts search_limit IsAudit
+is-audit workers dicts = record { dictionaries = refl; reads = refl; needs = refl; expected = λ inputs r is. is }

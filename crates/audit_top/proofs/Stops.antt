@@ -1,7 +1,6 @@
 -- What a part of a run returns that only writes to the output.
-use Rattle.std.proofs.Common.{ℕ, ◌≡◌, ◌∙◌, ◌⊎◌, inl, inr, List, [], ◌++◌, ap, sym, subst, refl, arith, Option, Some, None, Result, Ok, Err, length, take}
+use Rattle.std.proofs.Common.{ℕ, ◌≡◌, ◌∙◌, inl, inr, List, [], ap, sym, subst, refl, Option, Some, None, Result, Ok, Err, length, take}
 use Rattle.std.specs.Io.KnownBytes.{append_known}
-use Rattle.std.proofs.lemmas.List.{append-nil}
 use Rattle.std.proofs.Math.Seq.{take-length}
 use Rattle.outside.specs.Sink.{AppendsPrefix, Puts}
 use Rattle.outside.proofs.Known.{append_known-empty}
@@ -10,7 +9,7 @@ use Rattle.outside.specs.declared.fault.OutsideFault.{OutsideFault}
 use Rattle.outside.specs.declared.fault.OutsideFault.TheVariants as report
 use Rattle.audit_top.specs.Expected.{Expected, UnlessRefused, refused}
 use Rattle.audit_top.specs.Runs.{IsBegun, OutputView}
-use Rattle.audit_top.specs.inside.Answers.{Answers, Begins, Prints, Stops}
+use Rattle.audit_top.specs.inside.Answers.{Answers, Begins, Stops}
 use Rattle.audit_top.specs.inside.Endings.{EndsMemory}
 use Rattle.audit_top.specs.inside.Stops.{Stop, by_memory, by_output, by_refusal, refusal_of_report, stop_of}
 use Rattle.audit_top.specs.declared.refusals.Refusal.{Refusal}

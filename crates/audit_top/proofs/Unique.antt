@@ -1,5 +1,16 @@
--- Of what a run is expected to produce there is one.
-use Rattle.std.proofs.Common.{ℕ, ◌≡◌, ◌∙◌, List, [], sym, refl, Option, Some, None}
+-- Of what a run is expected to produce there is at most one.
+use Rattle.report.specs.Reports.{report_text}
+use Rattle.conflict_example.specs.Chosen.{AreChosen, IsChosenRow, words_in_stack}
+use Rattle.round_core.proofs.OneSearch.{search_once}
+use Rattle.round_core.specs.Searches.{SettledView}
+use Rattle.closure_laws.proofs.ChosenLemmas.{chosen_once}
+use Rattle.closure_laws.specs.Examples.{IsChosen, example}
+use Rattle.longest_match.specs.Rows.{AreConflicts, IsBefore, IsShortest, Row}
+use Rattle.steno_rules.specs.Outlines.{entry_number}
+use Rattle.steno_rules.specs.ClosureGraphs.{kept_lists}
+use Rattle.steno_rules.specs.Conflicts.{Shows}
+use Rattle.steno_rules.proofs.Lists.{none_in_nil, in_cons, in_first, in_later, pairs_tail, pairs_first}
+use Rattle.std.proofs.Common.{ℕ, ◌≡◌, ◌∙◌, List, [], sym, refl, Option, Some, None, inl, inr, ◌∷◌, All, AllPairs, Contains, ap₂, subst, arith, map, false, true≢false}
 use Rattle.std.specs.Option.{unwrap_or}
 use Rattle.steno_order.specs.Reading.{spelt_strokes}
 use Rattle.dict_json.specs.Generated.{generated_text}
@@ -7,9 +18,112 @@ use Rattle.dict_stack.specs.Stacks.{StackView}
 use Rattle.dict_files.specs.Refusals.{dictionaries_refusal, first_of, stack_from}
 use Rattle.report.specs.Refusals.{RefusalView, not_words}
 use Rattle.report.specs.Replays.{replay_text}
-use Rattle.audit_top.specs.Commands.{CommandView, generate, replay}
-use Rattle.audit_top.specs.Expected.{Expected, Inputs, IsExpected, IsReplay, OverStack, UnlessRefused, prints, refused, trie_limit}
+use Rattle.audit_top.specs.Commands.{CommandView, generate, replay, audit, searches}
+use Rattle.audit_top.specs.Expected.{Expected, Inputs, IsExpected, IsReplay, OverStack, UnlessRefused, prints, refused, trie_limit, IsAudit, search_limit, summary_of}
+use Rattle.audit_top.specs.Statuses.{audit_status}
 use Rattle.audit_top.specs.declared.status.Status.TheVariants.{Clean}
+
+-- ---- rising lists
+
+module _ {A : Type 0} (R : A → A → Type 0) (itself : (x : A) → R x x → ⊥) (trans : (x y z : A) → R x y → R y z → R x z) where
+  -- two rising lists with the same members are one
+  rising_same : (xs ys : List A) → AllPairs R xs → AllPairs R ys → ((z : A) → Contains xs z → Contains ys z) → ((z : A) → Contains ys z → Contains xs z) → xs ≡ ys
+  rising_same [] [] a b to from = refl
+  rising_same [] (y ∷ ys) a b to from = absurd (none_in_nil y (from y (in_first y ys)))
+  rising_same (x ∷ xs) [] a b to from = absurd (none_in_nil x (to x (in_first x xs)))
+  rising_same (x ∷ xs) (y ∷ ys) a b to from =
+      ap₂ (λ z l. z ∷ l) first (rising_same xs ys (pairs_tail R x xs a) (pairs_tail R y ys b)
+      (λ z h. elim (in_cons y ys z (to z (in_later x xs z h))) [
+        | inl is ↦ absurd (itself z (subst (λ l. R l z) (first ∙ is) (pairs_first R x xs z a h)))
+        | inr later ↦ later
+      ])
+      (λ z h. elim (in_cons x xs z (from z (in_later y ys z h))) [
+        | inl is ↦ absurd (itself z (subst (λ l. R l z) (sym first ∙ is) (pairs_first R y ys z b h)))
+        | inr later ↦ later
+      ]))
+    where
+      first : x ≡ y
+      first = elim (in_cons y ys x (to x (in_first x xs))) [
+        | inl is ↦ sym is
+        | inr later ↦ elim (in_cons x xs y (from y (in_first y ys))) [
+          | inl is ↦ is
+          | inr other ↦ absurd (itself y (trans y x y (pairs_first R y ys x b later) (pairs_first R x xs y a other)))
+        ]
+      ]
+
+before_itself : (x : Row) → IsBefore x x → ⊥
+before_itself x (inl h) = absurd (omega arith)
+before_itself x (inr h) = let p = h.1 in absurd (omega arith)
+
+before_trans : (x y z : Row) → IsBefore x y → IsBefore y z → IsBefore x z
+before_trans x y z (inl a) (inl b) = inl (omega arith)
+before_trans x y z (inl a) (inr b) = let e = b.0 in inl (omega arith)
+before_trans x y z (inr a) (inl b) = let e = a.0 in inl (omega arith)
+before_trans x y z (inr a) (inr b) = let p = a.1 in let q = b.1 in inr (a.0 ∙ b.0, omega arith)
+
+-- ---- rows
+
+row_of : ℕ → ℕ → ℕ → List ℕ → Row
+row_of entry place strokes words = record { entry = entry; place = place; strokes = strokes; words = words }
+
+row_same : (a b : Row) → a.entry ≡ b.entry → a.place ≡ b.place → a.strokes ≡ b.strokes → a.words ≡ b.words → a ≡ b
+unfolding row_of
+row_same a b e p s w = same a.entry a.place a.strokes a.words b.entry b.place b.strokes b.words e p s w
+  where
+    same : (e p s : ℕ) (w : List ℕ) (e' p' s' : ℕ) (w' : List ℕ) → e ≡ e' → p ≡ p' → s ≡ s' → w ≡ w' → row_of e p s w ≡ row_of e' p' s' w'
+    same e p s w e' p' s' w' he hp hs hw = rw (he, hp, hs, hw) refl
+
+map_some : (xs ys : List ℕ) → map Some xs ≡ map Some ys → xs ≡ ys
+map_some [] [] is = refl
+map_some [] (y ∷ ys) is = absurd (none is)
+  where
+    none : [] ≡ Some y ∷ map Some ys → ⊥
+    none is = cc
+map_some (x ∷ xs) [] is = absurd (none is)
+  where
+    none : Some x ∷ map Some xs ≡ [] → ⊥
+    none is = cc
+map_some (x ∷ xs) (y ∷ ys) is = let first : x ≡ y = cc in let rest : map Some xs ≡ map Some ys = cc in ap₂ (λ z l. z ∷ l) first (map_some xs ys rest)
+
+all_at : (P : Row → Type 0) (rows : List Row) (row : Row) → All P rows → Contains rows row → P row
+all_at P rows row all there = subst P there.2 (all there.0 row there.1)
+
+-- two rows of one pair are one
+rows_agree : (entries words : List (List ℕ)) (table : List ℕ) (a b : Row) → IsShortest entries words a → IsShortest entries words b → IsChosenRow entries words table a → IsChosenRow entries words table b
+    → a.entry ≡ b.entry → a.place ≡ b.place → a ≡ b
+rows_agree entries words table a b sa sb ca cb entry place =
+    let least_a = sa.least b.words sb.are_words (subst (λ (p : ℕ). Shows entries b.words a.entry p) (sym place) (subst (λ (e : ℕ). Shows entries b.words e b.place) (sym entry) sb.shown)) in
+    let least_b = sb.least a.words sa.are_words (subst (λ (p : ℕ). Shows entries a.words b.entry p) place (subst (λ (e : ℕ). Shows entries a.words e a.place) entry sa.shown)) in
+    let counted_a = sa.strokes in
+    let counted_b = sb.strokes in
+    let hit = subst (λ (p : ℕ). IsChosen entries words a.entry p cb.number cb.distance) (sym place) (subst (λ (e : ℕ). IsChosen entries words e b.place cb.number cb.distance) (sym entry) cb.hit) in
+    let once = chosen_once entries words a.entry a.place ca.number ca.distance cb.number cb.distance ca.hit hit in
+    let same = ca.words_are ∙ ap₂ (λ n d. map (entry_number entries) (example entries words table d n)) once.0 once.1 ∙ sym cb.words_are in
+    row_same a b entry place (omega arith) (map_some a.words b.words same)
+
+rows_to : (entries words : List (List ℕ)) (table : List ℕ) (xs ys : List Row) → AreConflicts entries words xs → AreConflicts entries words ys → AreChosen entries words table xs → AreChosen entries words table ys
+    → (z : Row) → Contains xs z → Contains ys z
+rows_to entries words table xs ys cx cy hx hy z there =
+    let shortest = all_at (IsShortest entries words) xs z cx.each there in
+    let has = cy.all z.entry z.place (record { ws = z.words; are_words = shortest.are_words; shows = shortest.shown }) in
+    let same = rows_agree entries words table has.row z (all_at (IsShortest entries words) ys has.row cy.each has.there) shortest
+    (all_at (IsChosenRow entries words table) ys has.row hy has.there) (all_at (IsChosenRow entries words table) xs z hx there) has.entry_is has.place_is in
+    subst (λ (r : Row). Contains ys r) same has.there
+
+rows_once : (entries words : List (List ℕ)) (table : List ℕ) (xs ys : List Row) → AreConflicts entries words xs → AreConflicts entries words ys → AreChosen entries words table xs → AreChosen entries words table ys → xs ≡ ys
+rows_once entries words table xs ys cx cy hx hy =
+    rising_same IsBefore before_itself before_trans xs ys cx.in_order cy.in_order (rows_to entries words table xs ys cx cy hx hy) (rows_to entries words table ys xs cy cx hy hx)
+
+-- ---- results
+
+audit_once : (stack : StackView) (a b : Expected) → IsAudit stack a → IsAudit stack b → a ≡ b
+audit_once stack a b ha hb =
+    let searched : ha.searched ≡ hb.searched = search_once 0 (kept_lists stack.outlines (words_in_stack stack)) ha.searched hb.searched ha.search hb.search in
+    let chosen = subst (λ (s : SettledView). AreChosen stack.outlines (words_in_stack stack) s.words hb.rows) (sym searched) hb.chosen in
+    let rows : ha.rows ≡ hb.rows = rows_once stack.outlines (words_in_stack stack) ha.searched.words ha.rows hb.rows ha.exact hb.exact ha.chosen chosen in
+    ha.produces
+    ∙ ap₂ (λ (rows : List Row) (s : SettledView). prints (audit_status rows) (report_text stack (summary_of s rows) rows)) rows searched
+    ∙ sym hb.produces
 
 unless_once : (o : Option RefusalView) (Follows : Expected → Type 0) (a b : Expected) → ((a b : Expected) → Follows a → Follows b → a ≡ b) → UnlessRefused o Follows a → UnlessRefused o Follows b → a ≡ b
 unless_once None Follows a b once ha hb = once a b ha hb
@@ -23,17 +137,19 @@ over_once limit Follows dicts contents a b once ha hb =
 pub expected-once : (inputs : Inputs) (command : Option CommandView) (a b : Expected) → IsExpected inputs command a → IsExpected inputs command b → a ≡ b
 expected-once inputs None a b ha hb = ha ∙ sym hb
 expected-once inputs (Some (replay outline dicts)) a b ha hb = over_once trie_limit (IsReplay outline) dicts inputs.dictionaries a b (λ s a b x y. x ∙ sym y) ha hb
+expected-once inputs (Some (audit workers dicts)) a b ha hb = over_once search_limit IsAudit dicts inputs.dictionaries a b audit_once ha hb
 expected-once inputs (Some (generate start count)) a b ha hb = ha ∙ sym hb
 
--- ---- and there is one
+-- ---- and of a command that searches nothing there is one
 
 unless_some : (o : Option RefusalView) (Follows : Expected → Type 0) (result : Expected) → Follows result → (r : Expected) × UnlessRefused o Follows r
 unless_some None Follows result is = (result, is)
 unless_some (Some refusal) Follows result is = (refused refusal, refl)
 
-pub expected-some : (inputs : Inputs) (command : Option CommandView) → (result : Expected) × IsExpected inputs command result
-expected-some inputs None = (refused not_words, refl)
-expected-some inputs (Some (replay outline dicts)) =
+pub expected-some : (inputs : Inputs) (command : Option CommandView) → searches command ≡ false → (result : Expected) × IsExpected inputs command result
+expected-some inputs None plain = (refused not_words, refl)
+expected-some inputs (Some (replay outline dicts)) plain =
     let stack : StackView = stack_from dicts inputs.dictionaries in
     unless_some (first_of (dictionaries_refusal dicts inputs.dictionaries) (trie_limit stack)) (IsReplay outline stack) (prints Clean (replay_text stack (unwrap_or (spelt_strokes outline) []))) refl
-expected-some inputs (Some (generate start count)) = (prints Clean (generated_text start count), refl)
+expected-some inputs (Some (audit workers dicts)) plain = absurd (true≢false plain)
+expected-some inputs (Some (generate start count)) plain = (prints Clean (generated_text start count), refl)

@@ -1,6 +1,6 @@
 -- What is known of a command that arguments were read as.
-use Rattle.std.proofs.Common.{ℕ, zero, suc, ◌≡◌, ◌<◌, ◌^◌, IfSome, option_map, sym, List, [], ◌∷◌, length, All, subst, arith, Option, Some, None, map, String, string_bytes, string_len, Global}
-use Rattle.audit_top.specs.Commands.{CommandView, arguments_of, command_of, command_view, generate, replay}
+use Rattle.std.proofs.Common.{zero, suc, ◌≡◌, ◌<◌, ◌^◌, IfSome, option_map, sym, List, [], ◌∷◌, length, All, subst, arith, Option, Some, None, map, String, string_bytes, string_len, Global, ap, ◌∙◌, false}
+use Rattle.audit_top.specs.Commands.{CommandView, arguments_of, command_of, command_view, generate, replay, audit, searches}
 use Rattle.audit_top.specs.inside.Written.{ForOutline, IsWritten}
 use Rattle.audit_top.specs.declared.commands.Command.{Command}
 use Rattle.audit_top.proofs.CommandLaw.{command-written}
@@ -8,6 +8,7 @@ use Rattle.audit_top.proofs.CommandLaw.{command-written}
 -- an outline is the second argument
 outline_short : (c : CommandView) → All (λ arg. length arg < 2 ^ 32) (arguments_of c) → ForOutline c (λ outline. length outline < 2 ^ 32)
 outline_short (replay outline dicts) short = short 1 [] (omega arith)
+outline_short (audit workers dicts) short = tt
 outline_short (generate start count) short = tt
 
 -- the arguments of the program, as lists of bytes
@@ -22,3 +23,7 @@ read-written args None short is = tt
 read-written args (Some command) short is =
     let written = command-written (map string_bytes args) (command_view command) (sym is) in
     record { valid = written.1; short = outline_short (command_view command) (subst (All (λ arg. length arg < 2 ^ 32)) written.0 (args_short args short)) }
+
+pub read-plain : (args : List (String Global)) (read : Option Command) → searches (command_of (map string_bytes args)) ≡ false → option_map command_view read ≡ command_of (map string_bytes args)
+    → searches (option_map command_view read) ≡ false
+read-plain args read plain is = ap searches is ∙ plain

@@ -3,7 +3,7 @@
 --     IsCommand args c      the arguments are the command c
 --     command_of args       the command that arguments are, if they are one
 --     command_view c        the program's `Command` as this
--- Then what each command reads, finds, checks and writes. A new command adds a line to each of these.
+-- Then what each command reads, searches, finds, checks and writes. A new command adds a line to each of these.
 use Rattle.std.specs.Prelude.{ℕ, ◌^◌, ◌-◌, ◌≡◌, List, [], ◌∷◌, Bool, true, false, not, ◌&&◌, nat_lt, nat_le, if◌then◌else◌, length, map, is_some, Option, Some, None, option_and_then, string_bytes, codes, decimal}
 use Rattle.std.specs.Str.{bytes_eq}
 use Rattle.std.specs.List.{list_all}
@@ -12,12 +12,14 @@ use Rattle.steno_order.specs.Reading.{spelt_strokes}
 use Rattle.dict_stack.specs.Stacks.{most_dictionaries}
 use Rattle.dict_files.specs.DictFiles.{match_prefix}
 use Rattle.dict_json.specs.Generated.{most_generated}
+use Rattle.steal_rounds.specs.declared.searches.TheConstants.{MAX_WORKERS}
 use Rattle.audit_top.specs.declared.commands.Command.{Command}
 use Rattle.audit_top.specs.declared.commands.Command.TheVariants as of
 
--- replay of an outline over dictionaries; the generated dictionary of a start and a count
+-- replay of an outline over dictionaries; audit of dictionaries by some workers; the generated dictionary of a start and a count
 pub data CommandView : Type 0 where
   replay : List ℕ → List (List ℕ) → CommandView
+  audit : ℕ → List (List ℕ) → CommandView
   generate : ℕ → ℕ → CommandView
 
 -- one dictionary or more, each with a file's name
@@ -28,14 +30,19 @@ are_files args = nat_lt 0 (length args) && list_all (λ arg. not (bytes_eq arg m
 abbrev pub is_spelt : List ℕ → Bool
 is_spelt text = is_some (spelt_strokes text)
 
+abbrev pub are_workers : ℕ → Bool
+are_workers n = nat_le 1 n && nat_le n MAX_WORKERS
+
 -- what the parts of a command have to be
 abbrev pub is_valid : CommandView → Bool
 is_valid (replay outline dicts) = is_spelt outline && are_files dicts
+is_valid (audit workers dicts) = are_workers workers && are_files dicts
 is_valid (generate start count) = nat_lt start (2 ^ 64) && nat_le count most_generated
 
 -- the arguments of a command
 abbrev pub arguments_of : CommandView → List (List ℕ)
 arguments_of (replay outline dicts) = codes "replay" ∷ outline ∷ dicts
+arguments_of (audit workers dicts) = codes "audit" ∷ decimal workers ∷ dicts
 arguments_of (generate start count) = codes "generate" ∷ decimal start ∷ decimal count ∷ []
 
 abbrev pub IsCommand : List (List ℕ) → CommandView → Type 0
@@ -52,6 +59,12 @@ abbrev pub replay_of : List (List ℕ) → Option CommandView
 replay_of (outline ∷ dicts) = if_valid (replay outline dicts)
 replay_of [] = None
 
+-- of those after `audit`
+abbrev pub audit_of : List (List ℕ) → Option CommandView
+audit_of (workers ∷ dicts) =
+    option_and_then (λ n. if_valid (audit n dicts)) (decimal_value MAX_WORKERS workers)
+audit_of [] = None
+
 -- of the two numbers after `generate`
 abbrev pub generate_of : List (List ℕ) → Option CommandView
 generate_of (start ∷ count ∷ []) =
@@ -62,12 +75,14 @@ generate_of args = None
 abbrev pub command_of : List (List ℕ) → Option CommandView
 command_of (name ∷ args) =
     if bytes_eq name (codes "replay") then replay_of args
+    else (if bytes_eq name (codes "audit") then audit_of args
     else (if bytes_eq name (codes "generate") then generate_of args
-    else None)
+    else None))
 command_of [] = None
 
 abbrev pub command_view : Command → CommandView
 command_view (of.Replay outline dicts) = replay outline.now (map string_bytes dicts.now)
+command_view (of.Audit workers dicts) = audit workers (map string_bytes dicts.now)
 command_view (of.Generate start count) = generate start count
 
 -- ---- what commands do
@@ -76,17 +91,26 @@ command_view (of.Generate start count) = generate start count
 abbrev pub dictionaries_in : Option CommandView → List (List ℕ)
 dictionaries_in None = []
 dictionaries_in (Some (replay outline dicts)) = dicts
+dictionaries_in (Some (audit workers dicts)) = dicts
 dictionaries_in (Some (generate start count)) = []
 
 -- it reads files, which it doesn't where they are too many
 abbrev pub reads_files : Option CommandView → Bool
 reads_files None = false
 reads_files (Some (replay outline dicts)) = nat_le (length dicts) most_dictionaries
+reads_files (Some (audit workers dicts)) = nat_le (length dicts) most_dictionaries
 reads_files (Some (generate start count)) = false
+
+-- it searches with workers, for which it may wait
+abbrev pub searches : Option CommandView → Bool
+searches None = false
+searches (Some (replay outline dicts)) = false
+searches (Some (audit workers dicts)) = true
+searches (Some (generate start count)) = false
 
 -- it says by its status whether it found something
 abbrev pub finds : Option CommandView → Bool
-finds command = false
+finds command = searches command
 
 -- it checks a certificate
 abbrev pub checks : Option CommandView → Bool

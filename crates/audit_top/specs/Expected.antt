@@ -1,18 +1,28 @@
 -- What a run is expected to produce: the status with which it ends, the text that it adds to the output, and the file that it writes.
 --     IsExpected inputs command result     this is expected of a run of the command on these inputs
 --     OverStack limit Follows              the refusals of dictionaries in their order, and what follows where there is none
--- A new command adds its line to `IsExpected`, and what it promises as a function or a record beside `IsReplay`.
-use Rattle.std.specs.Prelude.{ℕ, ◌≡◌, List, [], length, Option, Some, None, unwrap_or}
+--     IsAudit stack result                 what is expected of an audit
+-- A new command adds its line to `IsExpected`, and what it promises as a function or a record beside `IsAudit`.
+use Rattle.std.specs.Prelude.{ℕ, ◌≡◌, List, [], not, nat_eq, length, filter, Option, Some, None, unwrap_or}
+use Rattle.graph_rules.specs.Graphs.{unreached}
 use Rattle.steno_rules.specs.Nodes.{nodes}
+use Rattle.steno_rules.specs.StateNumbers.{number_count}
+use Rattle.steno_rules.specs.ClosureGraphs.{kept_lists}
 use Rattle.steno_order.specs.Reading.{spelt_strokes}
 use Rattle.dict_json.specs.Generated.{generated_text}
 use Rattle.dict_stack.specs.Stacks.{StackView}
 use Rattle.dict_files.specs.Refusals.{dictionaries_refusal, first_of, if_over, stack_from}
+use Rattle.longest_match.specs.Rows.{Row, AreConflicts}
+use Rattle.state_numbering.specs.Causes.{most_states}
+use Rattle.round_core.specs.Searches.{IsSearched, SettledView}
+use Rattle.conflict_example.specs.Chosen.{AreChosen, words_in_stack}
 use Rattle.outline_trie.specs.declared.trie.TheConstants.Trie.{MAX_NODES}
-use Rattle.report.specs.Refusals.{RefusalView, refusal_text, not_words, too_many_nodes}
+use Rattle.report.specs.Refusals.{RefusalView, refusal_text, not_words, too_many_nodes, too_many_states}
 use Rattle.report.specs.Replays.{replay_text}
-use Rattle.audit_top.specs.Commands.{CommandView, replay, generate}
-use Rattle.audit_top.specs.Statuses.{refusal_status}
+use Rattle.report.specs.Reports.{report_text}
+use Rattle.report.specs.declared.reports.Summary.{Summary}
+use Rattle.audit_top.specs.Commands.{CommandView, replay, audit, generate}
+use Rattle.audit_top.specs.Statuses.{audit_status, refusal_status}
 use Rattle.audit_top.specs.declared.status.Status.{Status}
 use Rattle.audit_top.specs.declared.status.Status.TheVariants.{Clean}
 
@@ -57,6 +67,11 @@ OverStack limit Follows args contents =
 abbrev pub trie_limit : StackView → Option RefusalView
 trie_limit stack = if_over MAX_NODES too_many_nodes (length (nodes stack.outlines))
 
+-- the limits of a command that searches
+abbrev pub search_limit : StackView → Option RefusalView
+search_limit stack =
+    first_of (trie_limit stack) (if_over most_states too_many_states (number_count stack.outlines))
+
 -- ---- what follows
 
 abbrev pub IsReplay : List ℕ → StackView → Expected → Type 0
@@ -66,10 +81,35 @@ IsReplay outline stack result =
 abbrev pub IsGenerated : ℕ → ℕ → Expected → Type 0
 IsGenerated start count result = result ≡ prints Clean (generated_text start count)
 
+-- how many numbers have a word of the search
+abbrev pub reached_count : List ℕ → ℕ
+reached_count table = length (filter (λ word. not (nat_eq word unreached)) table)
+
+-- the counts of a report
+abbrev pub summary_by : ℕ → ℕ → ℕ → Summary
+summary_by states rounds conflicts =
+    record { states = states; rounds = rounds; conflicts = conflicts }
+
+abbrev pub summary_of : SettledView → List Row → Summary
+summary_of searched rows =
+    summary_by (reached_count searched.words) searched.rounds (length rows)
+
+-- the report of exactly the conflicts, each with its chosen shortest example, and the counts of the search
+pub record IsAudit (stack : StackView) (result : Expected) : Type 0 where
+  pub rows : List Row
+  pub searched : SettledView
+  pub exact : AreConflicts stack.outlines (words_in_stack stack) rows
+  pub chosen : AreChosen stack.outlines (words_in_stack stack) searched.words rows
+  pub search : IsSearched 0 (kept_lists stack.outlines (words_in_stack stack)) searched
+  pub produces : result
+      ≡ prints (audit_status rows) (report_text stack (summary_of searched rows) rows)
+
 -- ---- each command
 
 abbrev pub IsExpected : Inputs → Option CommandView → Expected → Type 0
 IsExpected inputs None result = result ≡ refused not_words
 IsExpected inputs (Some (replay outline dicts)) result =
     OverStack trie_limit (IsReplay outline) dicts inputs.dictionaries result
+IsExpected inputs (Some (audit workers dicts)) result =
+    OverStack search_limit IsAudit dicts inputs.dictionaries result
 IsExpected inputs (Some (generate start count)) result = IsGenerated start count result

@@ -3,4 +3,5 @@ pub mod Statuses
 pub mod Expected
 pub mod Runs
 pub mod Programs
+pub mod Headline
 pub mod inside

@@ -1,5 +1,6 @@
--- Statuses: their numbers, and that of a run that ends with the line of a refusal.
-use Rattle.std.specs.Prelude.{ℕ}
+-- Statuses: their numbers, that of an audit that reports conflicts, and that of a run that ends with the line of a refusal.
+use Rattle.std.specs.Prelude.{ℕ, List, [], ◌∷◌}
+use Rattle.longest_match.specs.Rows.{Row}
 use Rattle.report.specs.Refusals.{RefusalView, not_words, file_failed, certificate_failed, not_json, not_object, not_text, too_many_dictionaries, too_many_bytes, outline_too_long, too_many_entries, too_many_nodes, too_many_states, certificate_too_long, no_memory, rejected}
 use Rattle.audit_top.specs.declared.status.Status.{Status}
 use Rattle.audit_top.specs.declared.status.Status.TheVariants.{Clean, Conflicts, Words, File, Refused, Limit, Output, Memory, Rejected}
@@ -15,6 +16,11 @@ exit_code Limit = 5
 exit_code Output = 6
 exit_code Memory = 7
 exit_code Rejected = 8
+
+-- the status of an audit that reports these conflicts: 1 where there is one, else 0
+abbrev pub audit_status : List Row → Status
+audit_status [] = Clean
+audit_status (row ∷ rows) = Conflicts
 
 -- the status of a run that ends with this line
 abbrev pub refusal_status : RefusalView → Status

@@ -4,11 +4,12 @@ ghost use Rattle.std.specs.Prelude.{◌≡◌, ◌<◌, ◌^◌, All, length, ma
 ghost use Rattle.std.specs.List.{list_all};
 ghost use Rattle.std.specs.Str.{bytes_eq};
 ghost use Rattle.dict_files.specs.DictFiles.{match_prefix};
-ghost use Rattle.audit_top.specs.Commands.{are_files, command_of, command_view, generate_of, replay_of};
+ghost use Rattle.audit_top.specs.Commands.{are_files, audit_of, command_of, command_view, generate_of, replay_of};
 
 use crate::numbers::read_number;
 use dict_files::names_file;
 use dict_json::MAX_GENERATED;
+use steal_rounds::MAX_WORKERS;
 use steno_order::is_readable;
 
 /// What is asked of the program, borrowed from the arguments.
@@ -17,6 +18,11 @@ pub enum Command<'a> {
     /// The replay of an outline over dictionaries, of which the first has the highest priority.
     Replay {
         outline: &'a str,
+        files: &'a [String],
+    },
+    /// The audit of dictionaries by 1 to 32 workers.
+    Audit {
+        workers: u32,
         files: &'a [String],
     },
     /// The bytes of the generated dictionary of a start and a count of entries.
@@ -60,6 +66,24 @@ fn replay(args: &[String]) -> Option<Command<'_>>
     }
 }
 
+/// The audit of the arguments after its name.
+fn audit(args: &[String]) -> Option<Command<'_>>
+    ensures { option_map command_view result ≡ audit_of (map string_bytes args.now) }
+{
+    let [workers, files @ ..] = args else {
+        return None;
+    };
+    let workers = read_number(workers.as_str(), u64::from(MAX_WORKERS))?;
+    if workers >= 1 && name_files(files) {
+        Some(Command::Audit {
+            workers: workers as u32,
+            files,
+        })
+    } else {
+        None
+    }
+}
+
 /// The generated dictionary of the arguments after its name.
 fn generate(args: &[String]) -> Option<Command<'_>>
     ensures { option_map command_view result ≡ generate_of (map string_bytes args.now) }
@@ -87,6 +111,7 @@ pub fn read_words(args: &[String]) -> Option<Command<'_>>
     };
     match name.as_str() {
         "replay" => replay(others),
+        "audit" => audit(others),
         "generate" => generate(others),
         _ => None,
     }

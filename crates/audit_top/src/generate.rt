@@ -9,7 +9,7 @@ ghost use Rattle.audit_top.specs.inside.Answers.{Answers};
 use crate::refusals::Refusal;
 use crate::status::Status;
 use dict_json::generated;
-use outside::{OutsideFault, Sink, write_all};
+use outside::{Sink, write_all};
 use std::alloc::Global;
 
 /// The bytes of the generated dictionary.
@@ -25,9 +25,6 @@ pub(crate) fn generate<S: Sink>(
         Answers (IsGenerated start count) before after result }
 {
     let bytes = generated(alloc, start, count)?;
-    match write_all(out, &bytes) {
-        Ok(()) => Ok(Status::Clean),
-        Err(OutsideFault::Failed) => Err(Refusal::Output),
-        Err(OutsideFault::Memory) => Err(Refusal::Memory),
-    }
+    write_all(out, &bytes)?;
+    Ok(Status::Clean)
 }

@@ -1,12 +1,14 @@
 //! The commands of the program, from the arguments of the command line to the bytes of the output.
 //!
-//! [`run_plain`] does all that the program does. Its contract is what a user is promised: what is expected of a run is a relation
-//! on its arguments and its dictionaries (`specs/Expected.antt`), and a run ends as expected, or with the line of a file that
-//! failed, or is cut off where the output failed or memory ran out (`specs/Runs.antt`).
+//! [`run`] does all that the program does, and [`run_plain`] what waits for nobody. Their contract is what a user is promised: what
+//! is expected of a run is a relation on its arguments and its dictionaries (`specs/Expected.antt`), and a run ends as expected, or
+//! with the line of a file that failed, or is cut off where the output failed or memory ran out (`specs/Runs.antt`). Of an audit the
+//! headline says by itself that its report has exactly the conflicts (`specs/Headline.antt`).
 //!
 //! Each command is a function of its own module that returns a status or a refusal. One place writes the line of a refusal.
 #![tactic(auto)]
 
+mod audit;
 mod commands;
 mod generate;
 mod laws;
@@ -21,7 +23,7 @@ pub use commands::{Command, read_words};
 pub use laws::{command_arguments, expected_results};
 pub use program::run_program;
 pub use status::Status;
-pub use top::run_plain;
+pub use top::{run, run_plain};
 
 #[cfg(test)]
 mod tests;

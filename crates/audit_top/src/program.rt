@@ -7,12 +7,16 @@ ghost use Rattle.audit_top.specs.Runs.{world};
 
 use crate::refusals::put_memory;
 use crate::status::Status;
-use crate::top::run_plain;
+use crate::top::{run, run_plain};
 use outside::{Files, Sink};
 use std::alloc::{AllocError, Global};
 use std::env::Args;
 use std::io;
 use std::io::ErrorKind;
+use std::marker::{Send, Sync};
+use std::sync::Wait;
+use std::thread::Threads;
+use steal_rounds::Gate;
 
 /// All arguments, with the program's name before them.
 fn collected(alloc: Global, given: Args) -> Result<Vec<String>, AllocError>
@@ -39,18 +43,20 @@ fn are_short(args: &[String]) -> bool
 }
 
 /// A run of arguments, of which one may be too long for a command.
-fn run_given<F: Files, S: Sink>(
+fn run_given<R: Threads + Wait + Sync, F: Files, S: Sink, K: Gate + Sync>(
+    rt: &R,
     alloc: Global,
     args: &[String],
     files: &mut F,
     out: &mut S,
+    gate: &K,
 ) -> Status
     ensures { let before = world (F.view files.old) (S.text out.old) (S.faults out.old) in
         let after = world (F.view files.new) (S.text out.new) (S.faults out.new) in
         RunsGiven args.now before after result }
 {
     if are_short(args) {
-        run_plain(alloc, args, files, out)
+        run(rt, alloc, args, files, out, gate)
     } else {
         run_plain(alloc, &[], files, out)
     }
@@ -69,11 +75,13 @@ fn run_none<F: Files, S: Sink>(alloc: Global, kind: ErrorKind, files: &mut F, ou
 }
 
 /// A run of what the system gives.
-fn run_outcome<F: Files, S: Sink>(
+fn run_outcome<R: Threads + Wait + Sync, F: Files, S: Sink, K: Gate + Sync>(
+    rt: &R,
     alloc: Global,
     given: io::Result<Args>,
     files: &mut F,
     out: &mut S,
+    gate: &K,
 ) -> Status
     ensures { let before = world (F.view files.old) (S.text out.old) (S.faults out.old) in
         let after = world (F.view files.new) (S.text out.new) (S.faults out.new) in
@@ -81,7 +89,7 @@ fn run_outcome<F: Files, S: Sink>(
 {
     match given {
         Ok(args) => match collected(alloc, args) {
-            Ok(all) => run_given(alloc, after_name(&all), files, out),
+            Ok(all) => run_given(rt, alloc, after_name(&all), files, out, gate),
             Err(_) => put_memory(out),
         },
         Err(error) => run_none(alloc, error.kind(), files, out),
@@ -91,15 +99,17 @@ fn run_outcome<F: Files, S: Sink>(
 /// The whole program: from what `env::args` returns to the exit status.
 ///
 /// Arguments that aren't text in UTF-8 are no command, and the program says so, as it does where one has 2^32 bytes or more.
-pub fn run_program<F: Files, S: Sink>(
+pub fn run_program<R: Threads + Wait + Sync, F: Files, S: Sink, K: Gate + Sync>(
+    rt: &R,
     alloc: Global,
     given: io::Result<Args>,
     files: &mut F,
     out: &mut S,
+    gate: &K,
 ) -> u8
     ensures { let before = world (F.view files.old) (S.text out.old) (S.faults out.old) in
         let after = world (F.view files.new) (S.text out.new) (S.faults out.new) in
         IsProgram given before after result }
 {
-    run_outcome(alloc, given, files, out).code()
+    run_outcome(rt, alloc, given, files, out, gate).code()
 }

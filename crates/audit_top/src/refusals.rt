@@ -4,7 +4,7 @@ ghost use Rattle.std.specs.Prelude.{◌≡◌};
 ghost use Rattle.report.specs.Refusals.{refusal_of};
 ghost use Rattle.audit_top.specs.Runs.{output};
 ghost use Rattle.audit_top.specs.Statuses.{refusal_status};
-ghost use Rattle.audit_top.specs.inside.Stops.{refusal_of_load, refusal_of_report, refusal_of_trie, stop_of};
+ghost use Rattle.audit_top.specs.inside.Stops.{refusal_of_load, refusal_of_numbers, refusal_of_report, refusal_of_strokes, refusal_of_trie, stop_of};
 ghost use Rattle.audit_top.specs.inside.Endings.{EndsLine, EndsMemory, EndsStop, Finishes};
 
 use crate::status::Status;
@@ -12,7 +12,9 @@ use dict_files::LoadFault;
 use outline_trie::TrieFault;
 use outside::{OutsideFault, Sink};
 use report::{FaultLine, write_fault, write_memory};
+use state_numbering::NumberFault;
 use std::alloc::{AllocError, Global};
+use steno_order::StrokesFault;
 
 /// Why a run goes no further.
 #[derive(Debug, Drop)]
@@ -21,6 +23,7 @@ pub(crate) enum Refusal {
     Arguments,
     Dictionaries(LoadFault),
     Nodes { count: u64 },
+    States { count: u64 },
     /// The output failed, so nothing more is written.
     Output,
     Memory,
@@ -33,6 +36,18 @@ impl From<LoadFault> for Refusal {
         match fault {
             LoadFault::Memory => Refusal::Memory,
             fault => Refusal::Dictionaries(fault),
+        }
+    }
+}
+
+/// Arguments whose outline can't be read are not a command.
+impl From<StrokesFault> for Refusal {
+    ghost from_gives = { λ fault refusal. refusal ≡ refusal_of_strokes fault };
+
+    fn from(fault: StrokesFault) -> Refusal {
+        match fault {
+            StrokesFault::Unreadable { .. } => Refusal::Arguments,
+            StrokesFault::Memory => Refusal::Memory,
         }
     }
 }
@@ -55,6 +70,17 @@ impl From<TrieFault> for Refusal {
         match fault {
             TrieFault::TooManyNodes { count } => Refusal::Nodes { count },
             TrieFault::Memory => Refusal::Memory,
+        }
+    }
+}
+
+impl From<NumberFault> for Refusal {
+    ghost from_gives = { λ fault refusal. refusal ≡ refusal_of_numbers fault };
+
+    fn from(fault: NumberFault) -> Refusal {
+        match fault {
+            NumberFault::TooManyStates { count } => Refusal::States { count },
+            NumberFault::Memory => Refusal::Memory,
         }
     }
 }
@@ -126,6 +152,7 @@ fn end_refused<S: Sink>(alloc: Global, out: &mut S, refusal: &Refusal) -> Status
         Refusal::Arguments => put_line(alloc, out, &FaultLine::Words),
         Refusal::Dictionaries(fault) => put_line(alloc, out, &fault.line()),
         Refusal::Nodes { count } => put_line(alloc, out, &FaultLine::Nodes { count: *count }),
+        Refusal::States { count } => put_line(alloc, out, &FaultLine::States { count: *count }),
     }
 }
 

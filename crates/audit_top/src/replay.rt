@@ -34,9 +34,7 @@ fn replay_pieces<S: Sink>(
         let after = output (S.text out.new) (S.faults out.new) in
         Answers (IsReplay outline.now stack.now) before after result }
 {
-    let Ok(strokes) = read_strokes(alloc, outline) else {
-        return Err(Refusal::Memory);
-    };
+    let strokes = read_strokes(alloc, outline)?;
     let pieces = translate(alloc, trie, &strokes)?;
     write_replay(alloc, out, stack, &strokes, &pieces)?;
     Ok(Status::Clean)

@@ -3,14 +3,19 @@
 //! The tables have a run a line: its arguments, its files, its status and its output, with `|` between them. Arguments stand with a
 //! space between two, files as `name=text` and lines of the output with `;` between two.
 
-ghost use Rattle.std.specs.Prelude.{◌<◌, ◌^◌, All, IsTrue, string_len};
+ghost use Rattle.std.specs.Prelude.{◌≡◌, ◌<◌, ◌^◌, All, IsTrue, false, map, string_bytes, string_len};
+ghost use Rattle.audit_top.specs.Commands.{command_of, searches};
 
-use crate::{Status, run_plain, run_program};
+use crate::{Command, Status, read_words, run, run_plain, run_program};
 use outside::{Files, MemFiles, MemSink, PlainFiles, PlainSink, Sink};
 use std::alloc::{AllocError, Global};
 use std::io;
 use std::io::ErrorKind;
+use std::marker::Sync;
 use std::process::Abort;
+use std::sync::Wait;
+use std::thread::Threads;
+use steal_rounds::NoGate;
 use steno_order::write_stroke;
 use stroke::Stroke;
 
@@ -33,9 +38,23 @@ fn are_short(args: &[String]) -> bool
     args.iter().all(|arg| arg.len() < 1 << 32)
 }
 
+/// Whether the arguments are no command that searches.
+fn are_plain(args: &[String]) -> bool
+    requires { All (λ arg. string_len arg < 2 ^ 32) args.now }
+    ensures { IsTrue result → searches (command_of (map string_bytes args.now)) ≡ false }
+{
+    match read_words(args) {
+        None => true,
+        Some(command) => match command {
+            Command::Replay { .. } | Command::Generate { .. } => true,
+            Command::Audit { .. } => false,
+        },
+    }
+}
+
 /// Runs the arguments.
-fn run(
-    rt: &impl Abort,
+fn run_line(
+    rt: &(impl Abort + Threads + Wait + Sync),
     alloc: Global,
     line: &str,
     files: &mut impl Files,
@@ -43,7 +62,7 @@ fn run(
 ) -> Result<Status, AllocError> {
     let args = arguments_of(alloc, line)?;
     assert!(rt; are_short(&args));
-    Ok(run_plain(alloc, &args, files, out))
+    Ok(run(rt, alloc, &args, files, out, &NoGate))
 }
 
 /// The files of these names and texts.
@@ -73,13 +92,17 @@ fn cut<'a>(rt: &impl Abort, row: &'a str) -> (&'a str, &'a str) {
 }
 
 /// Runs a row.
-fn check_row(rt: &impl Abort, alloc: Global, row: &str) -> Result<(), AllocError> {
+fn check_row(
+    rt: &(impl Abort + Threads + Wait + Sync),
+    alloc: Global,
+    row: &str,
+) -> Result<(), AllocError> {
     let (line, rest) = cut(rt, row);
     let (held, rest) = cut(rt, rest);
     let (code, lines) = cut(rt, rest);
     let mut files = files_of(alloc, held)?;
     let mut out = MemSink::new(alloc);
-    let found = run(rt, alloc, line, &mut files, &mut out)?;
+    let found = run_line(rt, alloc, line, &mut files, &mut out)?;
     assert!(rt;
         code.as_bytes() == [found.code() + b'0'].as_slice(),
         "{row}"
@@ -90,7 +113,11 @@ fn check_row(rt: &impl Abort, alloc: Global, row: &str) -> Result<(), AllocError
 }
 
 /// Runs each row of a table.
-fn check_rows(rt: &impl Abort, alloc: Global, table: &str) -> Result<(), AllocError> {
+fn check_rows(
+    rt: &(impl Abort + Threads + Wait + Sync),
+    alloc: Global,
+    table: &str,
+) -> Result<(), AllocError> {
     for row in table.lines() {
         check_row(rt, alloc, row)?;
     }
@@ -118,6 +145,20 @@ replay S d d d d d d d d d d d d d d d d|d={"S": "s"}|0|S "s"
 generate 7 0||0|{}
 generate 18446744073709551615 0||0|{}"#;
 
+const AUDITS: &str =
+    r#"audit 1 d|d={}|0|entries 0;skipped 0;folded 0;strokes 0;states 1;rounds 1;conflicts 0
+audit 1 d|d={"UE": "x", "-": "y", "": "z", "S//T": "q", "KAT": "cat"}|0|entries 1;skipped 4;folded 0;strokes 1;states 3;rounds 2;conflicts 0;skipped-key 1 "";skipped-key 1 "-";skipped-key 1 "S//T";skipped-key 1 "UE"
+audit 2 d|d={"KAT": "cat", "TEL": "tell", "KAT/TEL": "cattle"}|1|entries 3;skipped 0;folded 0;strokes 2;states 9;rounds 3;conflicts 1;conflict KAT/TEL place 1 strokes 2;words KAT | TEL;shows "cattle"
+audit 32 d|d={"S/T": "a", "K/P": "b"}|0|entries 2;skipped 0;folded 0;strokes 4;states 7;rounds 3;conflicts 0
+audit 1 d|d={"S": "is", "S/T": "ist", "T/K/P": "tkp", "W": "we", "P/W": "pw"}|1|entries 5;skipped 0;folded 0;strokes 5;states 21;rounds 6;conflicts 1;conflict P/W place 1 strokes 5;words S | T/K/P | W;shows "ist" | K | "pw"
+audit 8 d|d={"S": "is", "S/T": "ist", "T/K/P": "tkp", "W": "we", "P/W": "pw"}|1|entries 5;skipped 0;folded 0;strokes 5;states 21;rounds 6;conflicts 1;conflict P/W place 1 strokes 5;words S | T/K/P | W;shows "ist" | K | "pw"
+audit 1 d|d={"S": "s", "T": "t", "K": "k", "S/T/K": "stick"}|1|entries 4;skipped 0;folded 0;strokes 3;states 16;rounds 4;conflicts 2;conflict S/T/K place 1 strokes 3;words S | T | K;shows "stick";conflict S/T/K place 2 strokes 3;words S | T | K;shows "stick"
+audit 1 d|d={"S": "a", "S/S": "b"}|1|entries 2;skipped 0;folded 0;strokes 1;states 9;rounds 3;conflicts 1;conflict S/S place 1 strokes 2;words S | S;shows "b"
+audit 1 d|d={"-S": "a", "S-S": "b", "STS": "c", "ST-S": "d"}|0|entries 3;skipped 0;folded 1;strokes 3;states 7;rounds 2;conflicts 0
+audit 4 d|d={"KAT": "cat", "TEL": "tell", "KAT/TEL": "cattle", "TP-PL": "{.}", "-G": "{^ing}", "12": "12", "*": "=undo"}|1|entries 7;skipped 0;folded 0;strokes 6;states 17;rounds 3;conflicts 1;conflict KAT/TEL place 1 strokes 2;words KAT | TEL;shows "cattle"
+audit 1 w match:m|w={"KAT": "cat", "TEL": "tell"};m={"KAT/TEL": "cattle"}|1|entries 3;skipped 0;folded 0;strokes 2;states 8;rounds 3;conflicts 1;conflict KAT/TEL place 1 strokes 2;words KAT | TEL;shows "cattle"
+audit 1 match:d|d={"KAT": "cat", "TEL": "tell", "KAT/TEL": "cattle"}|0|entries 3;skipped 0;folded 0;strokes 2;states 1;rounds 1;conflicts 0"#;
+
 const REFUSALS: &str = r#"||2|refused words
 replay|d={}|2|refused words
 replay S|d={}|2|refused words
@@ -127,7 +168,14 @@ replay  d|d={}|2|refused words
 replay S match:|d={}|2|refused words
 replay S d match:|d={}|2|refused words
 replays S d|d={}|2|refused words
-audit 1 d|d={}|2|refused words
+audit|d={}|2|refused words
+audit 1|d={}|2|refused words
+audit 0 d|d={}|2|refused words
+audit 33 d|d={}|2|refused words
+audit 01 d|d={}|2|refused words
+audit 1 match:|d={}|2|refused words
+audit 1 d|d=[]|4|refused file 1 not object
+audit 1 d d d d d d d d d d d d d d d d d|d={}|5|limit dictionaries 17
 generate 7||2|refused words
 generate 07 1||2|refused words
 generate 7 100001||2|refused words
@@ -155,6 +203,11 @@ fn replays(rt: HostRuntime) -> Result<(), AllocError> {
 }
 
 #[test]
+fn audits(rt: HostRuntime) -> Result<(), AllocError> {
+    check_rows(&rt, rt.alloc(), AUDITS)
+}
+
+#[test]
 fn refusals(rt: HostRuntime) -> Result<(), AllocError> {
     check_rows(&rt, rt.alloc(), REFUSALS)
 }
@@ -166,7 +219,7 @@ fn hostile_files(rt: HostRuntime) -> Result<(), AllocError> {
 
 /// Runs a replay over a file of these bytes, whose output is one line.
 fn check_bytes(
-    rt: &impl Abort,
+    rt: &(impl Abort + Threads + Wait + Sync),
     alloc: Global,
     bytes: &[u8],
     status: Status,
@@ -175,7 +228,7 @@ fn check_bytes(
     let mut files = MemFiles::new(alloc);
     files.add("d.json", bytes)?;
     let mut out = MemSink::new(alloc);
-    let found = run(rt, alloc, "replay KAT d.json", &mut files, &mut out)?;
+    let found = run_line(rt, alloc, "replay KAT d.json", &mut files, &mut out)?;
     assert_eq!(rt; found, status);
     assert!(rt; out.text() == line);
     Ok(())
@@ -211,7 +264,7 @@ const THREE: &str = r#"a={"KAT": "cat"};b={"KAT": "feline"};d={"S": "s"}"#;
 
 /// Three dictionaries, each opened, read and read to its end: a call of the files fails.
 fn check_failing_call(
-    rt: &impl Abort,
+    rt: &(impl Abort + Threads + Wait + Sync),
     alloc: Global,
     call: u64,
     want: &[u8],
@@ -219,7 +272,7 @@ fn check_failing_call(
     let mut files = files_of(alloc, THREE)?;
     files.fail_at(only(alloc, call)?);
     let mut out = MemSink::new(alloc);
-    let found = run(rt, alloc, "replay S a match:b d", &mut files, &mut out)?;
+    let found = run_line(rt, alloc, "replay S a match:b d", &mut files, &mut out)?;
     assert_eq!(rt; found, Status::File, "at {call}");
     assert!(rt; out.text() == want, "at {call}");
     Ok(())
@@ -242,18 +295,22 @@ fn seventeen_dictionaries_open_no_file(rt: HostRuntime) -> Result<(), AllocError
     files.fail_at(only(rt.alloc(), 0)?);
     let mut out = MemSink::new(rt.alloc());
     let line = "replay S d d d d d d d d d d d d d d d d d";
-    let found = run(&rt, rt.alloc(), line, &mut files, &mut out)?;
+    let found = run_line(&rt, rt.alloc(), line, &mut files, &mut out)?;
     assert_eq!(rt; found, Status::Limit);
     assert!(rt; out.text() == b"limit dictionaries 17\n".as_slice());
     Ok(())
 }
 
 /// Runs a line over an output that fails at once.
-fn check_failing_output(rt: &impl Abort, alloc: Global, line: &str) -> Result<(), AllocError> {
+fn check_failing_output(
+    rt: &(impl Abort + Threads + Wait + Sync),
+    alloc: Global,
+    line: &str,
+) -> Result<(), AllocError> {
     let mut files = files_of(alloc, THREE)?;
     let mut out = MemSink::new(alloc);
     out.fail_at(only(alloc, 0)?);
-    let found = run(rt, alloc, line, &mut files, &mut out)?;
+    let found = run_line(rt, alloc, line, &mut files, &mut out)?;
     assert_eq!(rt; found, Status::Output);
     assert!(rt; out.text().is_empty());
     Ok(())
@@ -262,6 +319,7 @@ fn check_failing_output(rt: &impl Abort, alloc: Global, line: &str) -> Result<()
 #[test]
 fn the_output_fails(rt: HostRuntime) -> Result<(), AllocError> {
     check_failing_output(&rt, rt.alloc(), "replay S d")?;
+    check_failing_output(&rt, rt.alloc(), "audit 2 d")?;
     check_failing_output(&rt, rt.alloc(), "generate 7 2")?;
     check_failing_output(&rt, rt.alloc(), "replay S")?;
     check_failing_output(&rt, rt.alloc(), "replay S e")
@@ -272,7 +330,10 @@ fn plain_objects_never_fail(rt: HostRuntime) -> Result<(), AllocError> {
     let mut files = PlainFiles::new(rt.alloc());
     files.add("d", b"{\"S\": \"s\"}")?;
     let mut out = PlainSink::new(rt.alloc());
-    let found = run(&rt, rt.alloc(), "replay S d", &mut files, &mut out)?;
+    let args = arguments_of(rt.alloc(), "replay S d")?;
+    assert!(rt; are_short(&args));
+    assert!(rt; are_plain(&args));
+    let found = run_plain(rt.alloc(), &args, &mut files, &mut out);
     assert_eq!(rt; found, Status::Clean);
     assert!(rt; out.text() == b"S \"s\"\n".as_slice());
     Ok(())
@@ -326,7 +387,7 @@ fn an_unreadable_long_key(rt: HostRuntime) -> Result<(), AllocError> {
 
 /// Runs the program with these arguments after its name.
 fn run_arguments(
-    rt: &impl Abort,
+    rt: &(impl Abort + Threads + Wait + Sync),
     alloc: Global,
     line: &str,
     code: u8,
@@ -335,7 +396,14 @@ fn run_arguments(
     let args = arguments_of(alloc, line)?;
     let mut files = files_of(alloc, THREE)?;
     let mut out = MemSink::new(alloc);
-    let found = run_program(alloc, Ok(args.into_iter()), &mut files, &mut out);
+    let found = run_program(
+        rt,
+        alloc,
+        Ok(args.into_iter()),
+        &mut files,
+        &mut out,
+        &NoGate,
+    );
     assert_eq!(rt; found, code);
     assert!(rt; out.text() == text);
     Ok(())
@@ -362,10 +430,23 @@ fn the_program_runs_what_follows_its_name(rt: HostRuntime) -> Result<(), AllocEr
 }
 
 /// Runs the program where the system gives an error for its arguments.
-fn run_error(rt: &impl Abort, alloc: Global, kind: ErrorKind, code: u8, text: &[u8]) {
+fn run_error(
+    rt: &(impl Abort + Threads + Wait + Sync),
+    alloc: Global,
+    kind: ErrorKind,
+    code: u8,
+    text: &[u8],
+) {
     let mut files = MemFiles::new(alloc);
     let mut out = MemSink::new(alloc);
-    let found = run_program(alloc, Err(io::Error::from(kind)), &mut files, &mut out);
+    let found = run_program(
+        rt,
+        alloc,
+        Err(io::Error::from(kind)),
+        &mut files,
+        &mut out,
+        &NoGate,
+    );
     assert_eq!(rt; found, code);
     assert!(rt; out.text() == text);
 }
@@ -405,11 +486,13 @@ fn strokes_row(
 fn outlines_row(
     rt: &impl Abort,
     alloc: Global,
+    line: &str,
     count: u32,
     ends: &str,
 ) -> Result<String, AllocError> {
     let others = repeated(alloc, 63)?;
-    let mut row = String::from_str(alloc, "replay S d|d={")?;
+    let mut row = String::from_str(alloc, line)?;
+    row.push_str("|d={")?;
     for code in 1..=count {
         row.push_str(if code > 1 { ",\"" } else { "\"" })?;
         write_stroke(Stroke::new(code).expect(rt, "a code of a stroke"), &mut row)?;
@@ -424,10 +507,23 @@ fn outlines_row(
 
 #[test]
 fn the_most_nodes(rt: HostRuntime) -> Result<(), AllocError> {
-    let most = outlines_row(&rt, rt.alloc(), 65_535, "0|S untranslated")?;
+    let most = outlines_row(&rt, rt.alloc(), "replay S d", 65_535, "0|S untranslated")?;
     check_row(&rt, rt.alloc(), &most)?;
-    let more = outlines_row(&rt, rt.alloc(), 65_536, "5|limit nodes 4194305")?;
+    let more = outlines_row(
+        &rt,
+        rt.alloc(),
+        "replay S d",
+        65_536,
+        "5|limit nodes 4194305",
+    )?;
     check_row(&rt, rt.alloc(), &more)
+}
+
+#[test]
+fn too_many_states(rt: HostRuntime) -> Result<(), AllocError> {
+    let ends = "5|limit states 33589249";
+    let row = outlines_row(&rt, rt.alloc(), "audit 1 d", 672, ends)?;
+    check_row(&rt, rt.alloc(), &row)
 }
 
 #[test]

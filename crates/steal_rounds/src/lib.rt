@@ -15,6 +15,9 @@
 //! thread is made.
 #![tactic(auto)]
 
+ghost use Rattle.std.specs.Prelude.{◌≡◌};
+ghost use Rattle.steal_rounds.specs.declared.searches.TheConstants.{MAX_WORKERS};
+
 mod alone;
 mod gate;
 mod gather;
@@ -33,3 +36,8 @@ mod work;
 
 pub use gate::{Gate, NoGate};
 pub use searches::{MAX_WORKERS, Searched, search, search_on};
+
+/// The limit on the workers of a search.
+pub fn limits()
+    ensures { MAX_WORKERS ≡ 32 }
+{}

@@ -1,8 +1,8 @@
 //! The worked examples by pushes and by whole lists, and the translator beside the plain program.
-ghost use Rattle.std.specs.Prelude.{◌≡◌, ◌<◌};
+ghost use Rattle.std.specs.Prelude.{◌≡◌, ◌<◌, All, IsTrue};
 
-use crate::{Merge, Translator, translate};
-use longest_match::segment;
+use crate::{Merge, Translator, shows, translate};
+use longest_match::{segment, shows as shows_plainly};
 use outline_trie::Trie;
 use std::alloc::{AllocError, Global};
 use std::marker::Brand;
@@ -185,5 +185,40 @@ fn pieces_out_of_step(rt: HostRuntime) -> Result<(), AllocError> {
     let strokes = strokes_of(&rt, alloc, &[S, T, K, P, W])?;
     let pieces = translate(alloc, &trie, &strokes)?;
     assert!(rt; pieces.as_slice() == [whole(2, 1), lone(None), whole(2, 3)].as_slice());
+    Ok(())
+}
+
+/// Whether the words are numbers of so many entries.
+fn are_numbers(words: &[u32], count: usize) -> bool
+    ensures { IsTrue result → All (λ w. w < count) words.now }
+{
+    words.iter().all(|word| (*word as usize) < count)
+}
+
+#[test]
+fn words_show_places_as_by_the_plain_program(rt: HostRuntime) -> Result<(), AllocError> {
+    let alloc = rt.alloc();
+    let merging: &[&[u32]] = &[&[S], &[S, T, K], &[T], &[K]];
+    let out_of_step: &[&[u32]] = &[&[S], &[S, T], &[T, K, P], &[P, W], &[W]];
+    let twice: &[&[u32]] = &[&[S], &[S, S]];
+    let cases: [(&[&[u32]], &[u32], u32, u8, bool); 8] = [
+        (out_of_step, &[0, 2, 4], 3, 1, true),
+        (out_of_step, &[0, 2, 4], 3, 2, false),
+        (out_of_step, &[0, 2, 4], 3, 0, false),
+        (merging, &[0, 2, 3], 1, 1, true),
+        (merging, &[0, 2, 3], 1, 2, true),
+        (twice, &[0, 0], 1, 1, true),
+        (twice, &[1], 1, 1, false),
+        (twice, &[], 1, 1, false),
+    ];
+    for (table, words, entry, place, want) in cases {
+        let entries = entries_of(&rt, alloc, table)?;
+        assert!(rt; entries.len() < 100 && are_entries(&entries));
+        assert!(rt; words.len() < 100 && are_numbers(words, entries.len()));
+        assert!(rt; (entry as usize) < entries.len());
+        let trie = Trie::new(alloc, &entries).expect(&rt, "a trie");
+        assert_eq!(rt; shows(alloc, &trie, &entries, words, entry, place)?, want);
+        assert_eq!(rt; shows_plainly(alloc, &entries, words, entry, place)?, want);
+    }
     Ok(())
 }

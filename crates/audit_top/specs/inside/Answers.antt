@@ -1,13 +1,13 @@
 -- What the parts of a run return before the line of a refusal is written.
 --     Answers May old new answer             a part that only writes to the output
 --     IsAnswer command before after answer   the function of a command
-use Rattle.std.specs.Prelude.{ℕ, ◌≡◌, ◌⊎◌, List, [], false, true, Bool, nat_le, length, Option, Some, None, Result, Ok, Err}
+use Rattle.std.specs.Prelude.{ℕ, ◌≡◌, List, false, true, Bool, nat_le, length, Option, Some, None, Result, Ok, Err}
 use Rattle.std.specs.Io.KnownBytes.{append_known}
 use Rattle.outside.specs.Faults.{Rose}
-use Rattle.outside.specs.Files.{FilesView, LeavesFiles}
+use Rattle.outside.specs.Files.{LeavesFiles}
 use Rattle.dict_stack.specs.Stacks.{most_dictionaries}
 use Rattle.report.specs.Refusals.{RefusalView, refusal_text}
-use Rattle.audit_top.specs.Commands.{CommandView, generate, reads_files, replay, writes}
+use Rattle.audit_top.specs.Commands.{CommandView, audit, generate, reads_files, replay, writes}
 use Rattle.audit_top.specs.Statuses.{refusal_status}
 use Rattle.audit_top.specs.Expected.{Expected, Inputs, Written, refused}
 use Rattle.audit_top.specs.Runs.{AreInputs, EndsWhole, FailsNamed, IsBegun, IsFilePart, MayProduce, OpensNamed, OutputView, World, Writes}
@@ -77,6 +77,7 @@ IsAnswered May before after (Err refusal) = IsStopped May before after (stop_of 
 abbrev pub needs_memory : Option CommandView → Bool
 needs_memory None = false
 needs_memory (Some (replay outline dicts)) = nat_le (length dicts) most_dictionaries
+needs_memory (Some (audit workers dicts)) = nat_le (length dicts) most_dictionaries
 needs_memory (Some (generate start count)) = true
 
 -- memory ran out where it was needed, and no file failed

@@ -2,7 +2,7 @@ use Rattle.std.proofs.Common.{Some, refl}
 use Rattle.audit_top.specs.Commands.{generate}
 use Rattle.audit_top.specs.Expected.{IsGenerated}
 use Rattle.audit_top.proofs.Stacks.{without-files}
-use Rattle.audit_top.proofs.top.answer_command.Goals as goal
+use Rattle.audit_top.proofs.top.answer_plain.Goals as goal
 
 pub returns-in-Generate : goal.returns-in-Generate
 returns-in-Generate g c =

@@ -1,0 +1,147 @@
+//! `audit`: all conflicts of some dictionaries, each with a shortest sequence of words that shows it.
+
+ghost use Rattle.std.specs.Prelude.{◌≡◌, ◌≤◌, ◌<◌, ◌^◌, Some, length, map, string_bytes};
+ghost use Rattle.steno_rules.specs.ClosureGraphs.{kept_lists};
+ghost use Rattle.steno_rules.specs.StateNumbers.{number_count};
+ghost use Rattle.longest_match.specs.Rows.{AreConflicts, AreSmall};
+ghost use Rattle.state_numbering.specs.Causes.{most_states};
+ghost use Rattle.round_core.specs.Searches.{IsSearched};
+ghost use Rattle.conflict_example.specs.Chosen.{AreChosen, words_in_stack};
+ghost use Rattle.audit_top.specs.inside.Answers.{Answers, IsAnswer};
+ghost use Rattle.audit_top.specs.Commands.{audit as audit_of};
+ghost use Rattle.audit_top.specs.Expected.{IsAudit, UnlessRefused, reached_count, search_limit};
+ghost use Rattle.audit_top.specs.Statuses.{audit_status};
+ghost use Rattle.audit_top.specs.Runs.{output, world};
+ghost use Rattle.steal_rounds.specs.declared.searches.TheConstants.{MAX_WORKERS};
+
+use crate::refusals::Refusal;
+use crate::status::Status;
+use closure_state::WordSet;
+use conflict_example::conflicts;
+use dict_files::read_stack;
+use dict_stack::Stack;
+use longest_match::Conflict;
+use match_window::Windows;
+use outline_trie::Trie;
+use outside::{Files, Sink};
+use report::{Summary, write_report};
+use round_core::Settled;
+use state_numbering::{ClosureGraph, Numbering};
+use std::alloc::Global;
+use std::marker::{Send, Sync};
+use std::sync::Wait;
+use std::thread::Threads;
+use steal_rounds::{Gate, search};
+
+/// How many numbers have a word of the search.
+fn reached(words: &[u64]) -> u32
+    requires { length words.now < 2 ^ 32 }
+    ensures { result ≡ reached_count words.now }
+{
+    words.iter().filter(|word| **word != u64::MAX).count() as u32
+}
+
+/// The status of an audit that found these conflicts.
+fn status_of(rows: &[Conflict]) -> Status
+    ensures { result ≡ audit_status rows.now }
+{
+    match rows {
+        [] => Status::Clean,
+        _ => Status::Conflicts,
+    }
+}
+
+/// Writes the report of an audit whose conflicts were found.
+fn report_conflicts<S: Sink>(
+    alloc: Global,
+    stack: &Stack,
+    searched: &Settled,
+    rows: &[Conflict],
+    out: &mut S,
+) -> Result<Status, Refusal>
+    requires few { length searched.now.words < 2 ^ 32 }
+    requires exact { AreConflicts stack.now.outlines (words_in_stack stack.now) rows.now }
+    requires chosen { AreChosen stack.now.outlines (words_in_stack stack.now)
+        searched.now.words rows.now }
+    requires small { AreSmall stack.now.outlines rows.now }
+    requires search { IsSearched 0
+        (kept_lists stack.now.outlines (words_in_stack stack.now)) searched.now }
+    ensures { let before = output (S.text out.old) (S.faults out.old) in
+        let after = output (S.text out.new) (S.faults out.new) in
+        Answers (IsAudit stack.now) before after result }
+{
+    let summary = Summary {
+        states: reached(searched.words()),
+        rounds: searched.rounds(),
+        conflicts: rows.len() as u32,
+    };
+    write_report(alloc, out, stack, &summary, rows)?;
+    Ok(status_of(rows))
+}
+
+/// An audit whose states are numbered.
+fn audit_numbered<R: Threads + Wait + Sync, S: Sink, K: Gate + Sync>(
+    rt: &R,
+    alloc: Global,
+    workers: u32,
+    stack: &Stack,
+    numbering: &Numbering<'_>,
+    out: &mut S,
+    gate: &K,
+) -> Result<Status, Refusal>
+    requires some { 1 ≤ workers }
+    requires few { workers ≤ MAX_WORKERS }
+    requires entries { numbering.now.entries ≡ stack.now.outlines }
+    requires words { numbering.now.words ≡ words_in_stack stack.now }
+    requires within { number_count stack.now.outlines ≤ most_states }
+    ensures { let before = output (S.text out.old) (S.faults out.old) in
+        let after = output (S.text out.new) (S.faults out.new) in
+        Answers (IsAudit stack.now) before after result }
+{
+    let graph = ClosureGraph::new(numbering);
+    let searched = search(rt, alloc, &graph, workers, gate)?;
+    let rows = conflicts(alloc, numbering, stack, searched.words())?;
+    report_conflicts(alloc, stack, &searched, &rows, out)
+}
+
+/// An audit whose dictionaries were read.
+fn audit_stack<R: Threads + Wait + Sync, S: Sink, K: Gate + Sync>(
+    rt: &R,
+    alloc: Global,
+    workers: u32,
+    stack: &Stack,
+    out: &mut S,
+    gate: &K,
+) -> Result<Status, Refusal>
+    requires some { 1 ≤ workers }
+    requires few { workers ≤ MAX_WORKERS }
+    ensures { let before = output (S.text out.old) (S.faults out.old) in
+        let after = output (S.text out.new) (S.faults out.new) in
+        Answers (UnlessRefused (search_limit stack.now) (IsAudit stack.now)) before after result }
+{
+    let trie = Trie::new(alloc, stack.outlines())?;
+    let windows = Windows::new(alloc, &trie)?;
+    let words = WordSet::new(alloc, &trie, stack.words())?;
+    let numbering = Numbering::new(alloc, &trie, &windows, &words)?;
+    audit_numbered(rt, alloc, workers, stack, &numbering, out, gate)
+}
+
+/// The audit of the dictionaries that the arguments name.
+pub(crate) fn audit<R: Threads + Wait + Sync, F: Files, S: Sink, K: Gate + Sync>(
+    rt: &R,
+    alloc: Global,
+    workers: u32,
+    dicts: &[String],
+    files: &mut F,
+    out: &mut S,
+    gate: &K,
+) -> Result<Status, Refusal>
+    requires some { 1 ≤ workers }
+    requires few { workers ≤ MAX_WORKERS }
+    ensures { let before = world (F.view files.old) (S.text out.old) (S.faults out.old) in
+        let after = world (F.view files.new) (S.text out.new) (S.faults out.new) in
+        IsAnswer (Some (audit_of workers (map string_bytes dicts.now))) before after result }
+{
+    let stack = read_stack(alloc, files, dicts)?;
+    audit_stack(rt, alloc, workers, &stack, out, gate)
+}
