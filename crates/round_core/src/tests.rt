@@ -192,7 +192,7 @@ fn drive(machine: &mut RoundState<'_, Regular>)
         Event::Relax { worker: 1 },
         Event::Close,
     ];
-    for _ in 0..40 {
+    for round in 0..40 {
         for event in &turn {
             machine.step(*event);
         }
