@@ -15,7 +15,7 @@ use Rattle.steno_rules.proofs.Numbers.{entry_number-outline_of, entry_number-Som
 use Rattle.steno_rules.proofs.SegmentLemmas.{length-first_piece, length_pos, segments_step}
 use Rattle.stroke.specs.declared.pieces.Piece.{Piece}
 use Rattle.stroke.specs.Pieces.{piece_of, pieces as pieces_of}
-use Rattle.report.specs.inside.Indexes.{AreShorter, Begun, IsLongestAt, IsLongestOf, previous}
+use Rattle.report.specs.inside.Indexes.{AreShorter, IsBegunFrom, IsLongestAt, IsLongestOf, previous}
 
 -- ---- beginnings
 
@@ -105,7 +105,7 @@ all_begin entries x e k rising up inside below h = elim (cases_lt k e) [
 -- ---- the chain
 
 -- The entry before this one begins with all that this one begins with.
-pub begun_before : (entries : List (List ℕ)) (e : ℕ) → AreRising entries → e < length entries → Begun entries e (outline_of entries e) (previous e)
+pub begun_before : (entries : List (List ℕ)) (e : ℕ) → AreRising entries → e < length entries → IsBegunFrom entries e (outline_of entries e) (previous e)
 begun_before entries zero rising inside = λ k l. absurd (omega arith)
 begun_before entries (suc e) rising inside = record {
   below = omega arith;
@@ -114,7 +114,7 @@ begun_before entries (suc e) rising inside = record {
 
 -- One step along the chain, from an entry that x doesn't begin with.
 pub begun_next : (entries : List (List ℕ)) (x : List ℕ) (count e : ℕ) (next : Option ℕ) → AreRising entries → count ≤ length entries → begins_with x (outline_of entries e) ≡ false →
-    IsLongestOf entries e (outline_of entries e) next → Begun entries count x (Some e) → Begun entries count x next
+    IsLongestOf entries e (outline_of entries e) next → IsBegunFrom entries count x (Some e) → IsBegunFrom entries count x next
 begun_next entries x count e next rising fits apart longest h = by next longest
   where
     -- what x begins with comes before e
@@ -126,7 +126,7 @@ begun_next entries x count e next rising fits apart longest h = by next longest
           | inr ge ↦ let same : k ≡ e = omega arith in absurd (true≢false (sym (subst (λ i. begins_with x (outline_of entries i) ≡ true) same b) ∙ apart))
         ]
 
-    by : (next : Option ℕ) → IsLongestOf entries e (outline_of entries e) next → Begun entries count x next
+    by : (next : Option ℕ) → IsLongestOf entries e (outline_of entries e) next → IsBegunFrom entries count x next
     by None none = λ k l. not_true (begins_with x (outline_of entries k)) (λ b. true≢false (sym (h.all k l b) ∙ none k (earlier k l b)))
     by (Some f) found = record {
       below = omega (arith, found.below, h.below);
@@ -134,7 +134,7 @@ begun_next entries x count e next rising fits apart longest h = by next longest
     }
 
 -- An entry of the chain that x begins with is the longest.
-pub begun_found : (entries : List (List ℕ)) (x : List ℕ) (count e : ℕ) → begins_with x (outline_of entries e) ≡ true → Begun entries count x (Some e) → IsLongestAt entries count x e
+pub begun_found : (entries : List (List ℕ)) (x : List ℕ) (count e : ℕ) → begins_with x (outline_of entries e) ≡ true → IsBegunFrom entries count x (Some e) → IsLongestAt entries count x e
 begun_found entries x count e begins h = record {
   below = h.below;
   begins = begins;
@@ -144,13 +144,13 @@ begun_found entries x count e begins h = record {
 -- ---- where the chain begins
 
 -- the entry is x
-pub begun_same : (entries : List (List ℕ)) (x : List ℕ) (e : ℕ) → e < length entries → outline_of entries e ≡ x → Begun entries (length entries) x (Some e)
+pub begun_same : (entries : List (List ℕ)) (x : List ℕ) (e : ℕ) → e < length entries → outline_of entries e ≡ x → IsBegunFrom entries (length entries) x (Some e)
 begun_same entries x e inside is = record { below = inside; all = λ k l b. subst (λ y. begins_with y (outline_of entries k) ≡ true) (sym is) b }
 
 -- the entries before `place` are below x, and the others above it
 pub begun_place : (entries : List (List ℕ)) (x : List ℕ) (place : ℕ) → AreRising entries → place ≤ length entries →
     ((k : ℕ) → k < place → outline_cmp (outline_of entries k) x ≡ Less) → ((k : ℕ) → place ≤ k → k < length entries → outline_cmp (outline_of entries k) x ≡ Greater) →
-    Begun entries (length entries) x (previous place)
+    IsBegunFrom entries (length entries) x (previous place)
 begun_place entries x place rising fits below above = by place fits below above
   where
     -- x begins with no entry above it
@@ -161,7 +161,7 @@ begun_place entries x place rising fits below above = by place fits below above
         (subst (λ y. outline_cmp y (outline_of entries k) ≡ Less) parts.1 (turned outline_cmp nat_list_cmp_total (outline_of entries k) x is))
 
     by : (place : ℕ) → place ≤ length entries → ((k : ℕ) → k < place → outline_cmp (outline_of entries k) x ≡ Less) →
-        ((k : ℕ) → place ≤ k → k < length entries → outline_cmp (outline_of entries k) x ≡ Greater) → Begun entries (length entries) x (previous place)
+        ((k : ℕ) → place ≤ k → k < length entries → outline_cmp (outline_of entries k) x ≡ Greater) → IsBegunFrom entries (length entries) x (previous place)
     by zero fits below above = λ k l. not_true (begins_with x (outline_of entries k)) (apart k (above k (omega arith) l))
     by (suc e) fits below above = record {
       below = omega arith;

@@ -6,7 +6,7 @@ ghost use Rattle.steno_rules.specs.Segments.{first_piece as first_piece_of};
 ghost use Rattle.dict_stack.specs.Stacks.{most_entries};
 ghost use Rattle.stroke.specs.Pieces.{piece_of, pieces as pieces_of};
 ghost use Rattle.report.specs.Reports.{outline_text};
-ghost use Rattle.report.specs.inside.Indexes.{AreShorter, Begun, IsLongestOf, IsTextIndex, previous};
+ghost use Rattle.report.specs.inside.Indexes.{AreShorter, IsBegunFrom, IsLongestOf, IsTextIndex, previous};
 
 use dict_stack::Stack;
 use std::alloc::{AllocError, Global};
@@ -51,7 +51,7 @@ fn along(
     requires fits { length shorter.now ≤ length outlines.now }
     requires inside { IfSome from (λ e. e < length shorter.now) }
     ensures longest { (count : ℕ) → count ≤ length outlines.now
-        → Begun outlines.now count strokes.now from
+        → IsBegunFrom outlines.now count strokes.now from
         → IsLongestOf outlines.now count strokes.now result }
     ensures inside { IfSome result (λ e. e < length shorter.now) }
 {
@@ -100,7 +100,7 @@ fn shorter_of(alloc: Global, outlines: &[Outline]) -> Result<Vec<Option<u32>>, A
 fn nearest(outlines: &[Outline], strokes: &[Stroke]) -> Option<u32>
     requires entries { AreEntries outlines.now }
     requires few { length outlines.now ≤ most_entries }
-    ensures begun { Begun outlines.now (length outlines.now) strokes.now result }
+    ensures begun { IsBegunFrom outlines.now (length outlines.now) strokes.now result }
     ensures inside { IfSome result (λ e. e < length outlines.now) }
 {
     match outlines.binary_search_by(|outline| outline.strokes().cmp(strokes)) {

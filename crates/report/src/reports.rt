@@ -4,16 +4,15 @@ ghost use Rattle.std.specs.Prelude.{◌≡◌, ◌++◌, IfOk, OnOk, codes, flat
 ghost use Rattle.outside.specs.Sink.{Puts};
 ghost use Rattle.longest_match.specs.Rows.{AreSmall};
 ghost use Rattle.report.specs.Reports.{head_text, number_line, report_text, rows_text, skipped_line, skipped_text, summary_text};
-ghost use Rattle.report.specs.inside.Pages.{Adds, progress};
+ghost use Rattle.pages.specs.Pages.{AddsToPage, progress};
 
 use crate::indexes::Index;
-use crate::pages::{new_page, put_full};
-use crate::quoting::{push_number, push_quoted};
 use crate::rows::write_rows;
 use dict_json::Text;
 use dict_stack::Stack;
 use longest_match::Conflict;
 use outside::{OutsideFault, Sink, write_all};
+use pages::{new_page, push_number, push_quoted, put_full};
 use std::alloc::{AllocError, Global};
 
 /// The numbers of a report that its rows don't have.
@@ -79,7 +78,7 @@ fn write_key<S: Sink>(
 ) -> Result<(), OutsideFault>
     ensures { let before = progress (S.text sink.old) (S.faults sink.old) page.old.items in
         let after = progress (S.text sink.new) (S.faults sink.new) page.new.items in
-        Adds (skipped_line number key.now) result before after }
+        AddsToPage (skipped_line number key.now) result before after }
 {
     push_skipped(page, number, key)?;
     put_full(sink, page)
@@ -94,7 +93,7 @@ fn write_keys<S: Sink>(
 ) -> Result<(), OutsideFault>
     ensures { let before = progress (S.text sink.old) (S.faults sink.old) page.old.items in
         let after = progress (S.text sink.new) (S.faults sink.new) page.new.items in
-        Adds (flat_map (skipped_line number) keys.now) result before after }
+        AddsToPage (flat_map (skipped_line number) keys.now) result before after }
 {
     for key in keys {
         write_key(sink, page, number, key.as_str())?;
@@ -110,7 +109,7 @@ fn write_skipped<S: Sink>(
 ) -> Result<(), OutsideFault>
     ensures { let before = progress (S.text sink.old) (S.faults sink.old) page.old.items in
         let after = progress (S.text sink.new) (S.faults sink.new) page.new.items in
-        Adds (skipped_text stack.now) result before after }
+        AddsToPage (skipped_text stack.now) result before after }
 {
     for dictionary in 0..stack.dictionary_count() {
         write_keys(
@@ -134,7 +133,7 @@ fn write_conflicts<S: Sink>(
     requires { AreSmall stack.now.outlines conflicts.now }
     ensures { let before = progress (S.text sink.old) (S.faults sink.old) page.old.items in
         let after = progress (S.text sink.new) (S.faults sink.new) page.new.items in
-        Adds (rows_text (codes "conflict") stack.now conflicts.now) result before after }
+        AddsToPage (rows_text (codes "conflict") stack.now conflicts.now) result before after }
 {
     let index = Index::new(alloc, stack)?;
     write_rows(alloc, sink, page, &index, b"conflict", conflicts)

@@ -8,13 +8,12 @@ ghost use Rattle.stroke.specs.Pieces.{pieces as pieces_of};
 ghost use Rattle.longest_match.specs.Rows.{IsSmall};
 ghost use Rattle.report.specs.Reports.{pair_line, pieces_shown, row_text, rows_text, shown, shown_text, words_text};
 ghost use Rattle.report.specs.inside.Bars.{bar_at};
-ghost use Rattle.report.specs.inside.Pages.{Adds, progress};
+ghost use Rattle.pages.specs.Pages.{AddsToPage, progress};
 
 use crate::indexes::Index;
-use crate::pages::put_full;
-use crate::quoting::{push_number, push_outline, push_quoted};
 use longest_match::{Conflict, Piece};
 use outside::{OutsideFault, Sink};
+use pages::{push_number, push_outline, push_quoted, put_full};
 use std::alloc::{AllocError, Global};
 use stroke::Stroke;
 
@@ -191,7 +190,7 @@ fn write_row<S: Sink>(
     requires { IsSmall index.now.outlines row.now }
     ensures { let before = progress (S.text sink.old) (S.faults sink.old) page.old.items in
         let after = progress (S.text sink.new) (S.faults sink.new) page.new.items in
-        Adds (row_text name.now index.now row.now) result before after }
+        AddsToPage (row_text name.now index.now row.now) result before after }
 {
     push_row(page, index, name, row, scratch)?;
     put_full(sink, page)
@@ -209,7 +208,7 @@ pub(crate) fn write_rows<S: Sink>(
     requires { All (IsSmall index.now.outlines) rows.now }
     ensures { let before = progress (S.text sink.old) (S.faults sink.old) page.old.items in
         let after = progress (S.text sink.new) (S.faults sink.new) page.new.items in
-        Adds (rows_text name.now index.now rows.now) result before after }
+        AddsToPage (rows_text name.now index.now rows.now) result before after }
 {
     let mut scratch = Scratch::new(alloc);
     for row in rows {

@@ -3,7 +3,7 @@
 --     IsTextIndex outlines text ends     the outlines' texts, laid end to end, and where each begins and ends
 --     IsLongestOf entries count x found  the longest of the first so many entries that x begins with
 --     AreShorter entries count shorter   for each of the first so many entries the longest one before it that it begins with
---     Begun entries count x from         all of the first so many entries that x begins with begin also the entry `from`
+--     IsBegunFrom entries count x from         all of the first so many entries that x begins with begin also the entry `from`
 use Rattle.std.specs.Prelude.{ℕ, zero, suc, ◌≡◌, ◌+◌, ◌<◌, ◌≤◌, List, Option, Some, None, true, false, length, take, flat_map, get_or}
 use Rattle.steno_rules.specs.Outlines.{AreEntries, begins_with, outline_of}
 use Rattle.steno_order.specs.Canonical.{canonical_text}
@@ -43,9 +43,9 @@ pub record IsBegunAt (entries : List (List ℕ)) (count : ℕ) (x : List ℕ) (e
   pub all : (k : ℕ) → k < count → begins_with x (outline_of entries k) ≡ true
       → begins_with (outline_of entries e) (outline_of entries k) ≡ true
 
-abbrev pub Begun : List (List ℕ) → ℕ → List ℕ → Option ℕ → Type 0
-Begun entries count x None = IsLongestOf entries count x None
-Begun entries count x (Some e) = IsBegunAt entries count x e
+abbrev pub IsBegunFrom : List (List ℕ) → ℕ → List ℕ → Option ℕ → Type 0
+IsBegunFrom entries count x None = IsLongestOf entries count x None
+IsBegunFrom entries count x (Some e) = IsBegunAt entries count x e
 
 -- the number before this one
 abbrev pub previous : ℕ → Option ℕ

@@ -1,12 +1,12 @@
 use Rattle.std.proofs.Common.{ℕ, suc, ◌<◌, ◌≤◌, length, Option, Some, None, IfSome}
-use Rattle.report.specs.inside.Indexes.{Begun}
+use Rattle.report.specs.inside.Indexes.{IsBegunFrom}
 use Rattle.report.proofs.indexes.along.Given as goal
 
 -- all entries that begin the strokes still stand on the chain
 abbrev pub invariant-loop-at : goal.invariant-loop-at
 invariant-loop-at l = record {
   inside : IfSome l.at (λ e. e < length l.shorter);
-  begun : (count : ℕ) → count ≤ length l.outlines → Begun l.outlines count l.strokes l.fn.from → Begun l.outlines count l.strokes l.at;
+  begun : (count : ℕ) → count ≤ length l.outlines → IsBegunFrom l.outlines count l.strokes l.fn.from → IsBegunFrom l.outlines count l.strokes l.at;
 }
 
 -- the chain falls

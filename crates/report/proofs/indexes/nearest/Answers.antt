@@ -3,7 +3,7 @@ use Rattle.std.proofs.lemmas.Fn.{always_returns_same}
 use Rattle.steno_rules.specs.Outlines.{outline_cmp, outline_of}
 use Rattle.steno_rules.proofs.NodeLemmas.{same_of_equal}
 use Rattle.dict_stack.proofs.FindLemmas.{searchable}
-use Rattle.report.specs.inside.Indexes.{Begun}
+use Rattle.report.specs.inside.Indexes.{IsBegunFrom}
 use Rattle.report.proofs.Chains.{begun_same, begun_place}
 use Rattle.report.proofs.indexes.nearest.Goals as goal
 
@@ -19,6 +19,6 @@ returns-in-Err-clause-begun c =
     let entries = c.args.outlines.now in
     let x = c.args.strokes.now in
     let split = c.in-Err.ensures.position (λ y. outline_cmp y x) (always_returns_same _ _ _ (λ a r q k. search rules)) (searchable entries x c.requires.entries.rising) in
-    subst (λ (o : Option ℕ). Begun entries (length entries) x o) (sym c.place_before.ensures)
+    subst (λ (o : Option ℕ). IsBegunFrom entries (length entries) x o) (sym c.place_before.ensures)
     (begun_place entries x c.in-Err.place c.requires.entries.rising (omega (arith, c.in-Err.ensures.bound))
     (λ k l. split.0 k [] (omega (arith, c.in-Err.ensures.bound)) l) (λ k l m. split.1 k [] l m))

@@ -1,5 +1,5 @@
 use Rattle.std.proofs.lemmas.Result.{err_from_is_err_and}
-use Rattle.report.proofs.PageSteps.{line_added, memory_first}
+use Rattle.pages.proofs.PageSteps.{line_added, memory_first}
 use Rattle.report.proofs.replays.write_piece.Goals as goal
 
 pub returns-in_err-push_piece : goal.returns-in_err-push_piece

@@ -5,7 +5,7 @@ use Rattle.std.proofs.lemmas.List.Sums.{sum_by-cons}
 use Rattle.std.proofs.lemmas.Result.{err_from_is_err_and}
 use Rattle.stroke.specs.declared.pieces.Piece.{Piece}
 use Rattle.report.specs.Replays.{piece_line, pieces_text}
-use Rattle.report.proofs.PageSteps.{adding_as, adding_more, adds_early, adds_whole}
+use Rattle.pages.proofs.PageSteps.{adding_as, adding_more, adds_early, adds_whole}
 use Rattle.report.proofs.replays.write_pieces.Goals as goal
 
 abbrev blank : Piece

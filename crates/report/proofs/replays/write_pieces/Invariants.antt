@@ -1,8 +1,8 @@
 use Rattle.std.proofs.Common.{◌≡◌, drop, length}
 use Rattle.std.specs.Prelude.{sum_by}
 use Rattle.report.specs.Replays.{pieces_text}
-use Rattle.report.specs.inside.Pages.{progress}
-use Rattle.report.proofs.PageSteps.{IsAdding}
+use Rattle.pages.specs.Pages.{progress}
+use Rattle.pages.proofs.PageSteps.{IsAdding}
 use Rattle.report.proofs.replays.write_pieces.Given as goal
 
 -- the pieces that are left are those of the strokes that are left

@@ -1,6 +1,6 @@
 use Rattle.std.proofs.Common.{[], sym, append-nil}
 use Rattle.report.specs.Replays.{pieces_text}
-use Rattle.report.proofs.PageSteps.{adding_all, adding_as, adding_more, puts_last}
+use Rattle.pages.proofs.PageSteps.{adding_all, adding_as, adding_more, puts_last}
 use Rattle.report.proofs.replays.write_replay.Goals as goal
 
 pub returns : goal.returns

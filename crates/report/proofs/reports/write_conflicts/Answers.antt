@@ -1,5 +1,5 @@
 use Rattle.std.proofs.lemmas.Result.{err_from_is_err_and}
-use Rattle.report.proofs.PageSteps.{memory_first}
+use Rattle.pages.proofs.PageSteps.{memory_first}
 use Rattle.report.proofs.reports.write_conflicts.Goals as goal
 
 pub returns-in_err-index : goal.returns-in_err-index

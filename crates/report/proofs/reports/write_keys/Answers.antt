@@ -2,7 +2,7 @@ use Rattle.std.proofs.Common.{◌+◌, ◌∙◌, arith, drop, flat_map, List, �
 use Rattle.std.proofs.lemmas.List.{at_drop_all}
 use Rattle.std.proofs.lemmas.Result.{err_from_is_err_and}
 use Rattle.report.specs.Reports.{skipped_line}
-use Rattle.report.proofs.PageSteps.{adding_more, adds_early, adds_whole, next_part}
+use Rattle.pages.proofs.PageSteps.{adding_more, adds_early, adds_whole, next_part}
 use Rattle.report.proofs.reports.write_keys.Goals as goal
 
 pub returns-in_err-write_key : goal.returns-in_err-write_key

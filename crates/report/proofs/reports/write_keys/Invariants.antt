@@ -1,7 +1,7 @@
 use Rattle.std.proofs.Common.{drop, flat_map}
 use Rattle.report.specs.Reports.{skipped_line}
-use Rattle.report.specs.inside.Pages.{progress}
-use Rattle.report.proofs.PageSteps.{IsAdding}
+use Rattle.pages.specs.Pages.{progress}
+use Rattle.pages.proofs.PageSteps.{IsAdding}
 use Rattle.report.proofs.reports.write_keys.Given as goal
 
 -- the keys that are left are to be written

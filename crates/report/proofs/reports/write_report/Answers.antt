@@ -2,7 +2,7 @@ use Rattle.std.proofs.Common.{[], ◌++◌, sym, append-nil}
 use Rattle.std.specs.Prelude.{codes}
 use Rattle.std.proofs.lemmas.Result.{err_from_is_err_and}
 use Rattle.report.specs.Reports.{head_text, rows_text, skipped_text}
-use Rattle.report.proofs.PageSteps.{adding_all, adding_as, adding_more, adds_early, puts_early, puts_last}
+use Rattle.pages.proofs.PageSteps.{adding_all, adding_as, adding_more, adds_early, puts_early, puts_last}
 use Rattle.report.proofs.reports.write_report.Goals as goal
 
 pub returns-in_err-write_skipped : goal.returns-in_err-write_skipped

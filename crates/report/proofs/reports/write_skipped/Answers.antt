@@ -2,7 +2,7 @@ use Rattle.std.proofs.Common.{◌++◌, ◌+◌, arith, drop, flat_map, List, �
 use Rattle.std.proofs.lemmas.List.{at_drop_all}
 use Rattle.std.proofs.lemmas.Result.{err_from_is_err_and}
 use Rattle.report.specs.Reports.{skipped_from, skipped_line, skipped_text}
-use Rattle.report.proofs.PageSteps.{adding_all, adding_as, adding_more, adds_early, adds_whole}
+use Rattle.pages.proofs.PageSteps.{adding_all, adding_as, adding_more, adds_early, adds_whole}
 use Rattle.report.proofs.SkippedLines.{skipped_next}
 use Rattle.report.proofs.reports.write_skipped.Goals as goal
 

@@ -1,7 +1,7 @@
 use Rattle.std.proofs.Common.{◌≤◌, ◌+◌, drop, length}
 use Rattle.report.specs.Reports.{skipped_from, skipped_text}
-use Rattle.report.specs.inside.Pages.{progress}
-use Rattle.report.proofs.PageSteps.{IsAdding}
+use Rattle.pages.specs.Pages.{progress}
+use Rattle.pages.proofs.PageSteps.{IsAdding}
 use Rattle.report.proofs.reports.write_skipped.Given as goal
 
 -- the dictionaries that are left are to be written

@@ -1,7 +1,7 @@
 use Rattle.std.proofs.Common.{drop}
 use Rattle.report.specs.Reports.{rows_text}
-use Rattle.report.specs.inside.Pages.{progress}
-use Rattle.report.proofs.PageSteps.{IsAdding}
+use Rattle.pages.specs.Pages.{progress}
+use Rattle.pages.proofs.PageSteps.{IsAdding}
 use Rattle.report.proofs.rows.write_rows.Given as goal
 
 -- the rows that are left are to be written

@@ -11,7 +11,7 @@ use Rattle.outside.specs.Sink.{AppendsPrefix, Puts}
 use Rattle.outside.specs.declared.fault.OutsideFault.{OutsideFault}
 use Rattle.outside.specs.declared.fault.OutsideFault.TheVariants.{Failed, Memory}
 use Rattle.outside.proofs.Known.{append_known-append, append_known-empty}
-use Rattle.report.specs.inside.Pages.{Adds, GoesOn, Progress, progress}
+use Rattle.pages.specs.Pages.{AddsToPage, IsAdded, Progress, progress}
 
 -- ---- prefixes
 
@@ -34,14 +34,14 @@ prefix_none known xs = (0, omega arith, sym (append_known-empty known))
 
 -- ---- two parts
 
-goes_none : (at : Progress) → GoesOn at at []
+goes_none : (at : Progress) → IsAdded at at []
 goes_none at = record { put = []; text = sym (append_known-empty at.text); made = sym (append-nil at.page) }
 
 -- the page and both parts, in another grouping
-regroup : (before mid : Progress) (a b : List ℕ) (h : GoesOn before mid a) → h.put ++ (mid.page ++ b) ≡ before.page ++ (a ++ b)
+regroup : (before mid : Progress) (a b : List ℕ) (h : IsAdded before mid a) → h.put ++ (mid.page ++ b) ≡ before.page ++ (a ++ b)
 regroup before mid a b h = sym (append_assoc h.put mid.page b) ∙ ap (λ l. l ++ b) h.made ∙ append_assoc before.page a b
 
-goes_both : (before mid after : Progress) (a b : List ℕ) → GoesOn before mid a → GoesOn mid after b → GoesOn before after (a ++ b)
+goes_both : (before mid after : Progress) (a b : List ℕ) → IsAdded before mid a → IsAdded mid after b → IsAdded before after (a ++ b)
 goes_both before mid after a b h g = record {
   put = h.put ++ g.put;
   text = g.text ∙ ap (λ k. append_known k g.put) h.text ∙ append_known-append before.text h.put g.put;
@@ -49,7 +49,7 @@ goes_both before mid after a b h g = record {
 }
 
 -- the second part ends early
-goes_early : (before mid : Progress) (new : Option (List ℕ)) (a b : List ℕ) → GoesOn before mid a → AppendsPrefix mid.text new (mid.page ++ b)
+goes_early : (before mid : Progress) (new : Option (List ℕ)) (a b : List ℕ) → IsAdded before mid a → AppendsPrefix mid.text new (mid.page ++ b)
     → AppendsPrefix before.text new (before.page ++ (a ++ b))
 goes_early before mid new a b h cut =
     subst (λ (l : List ℕ). AppendsPrefix before.text new l) (regroup before mid a b h) (prefix_behind before.text mid.text new h.put (mid.page ++ b) h.text cut)
@@ -60,7 +60,7 @@ goes_early before mid new a b h cut =
 pub record IsAdding (before now : Progress) (whole left : List ℕ) : Type 0 where
   pub so_far : List ℕ
   pub split : so_far ++ left ≡ whole
-  pub goes_on : GoesOn before now so_far
+  pub goes_on : IsAdded before now so_far
   pub steady : now.faults ≡ before.faults
 
 -- at first all of it is left
@@ -69,7 +69,7 @@ adding_all at whole = record { so_far = []; split = refl; goes_on = goes_none at
 
 -- a part was added
 pub adding_more : {T : Type 0} (before mid after : Progress) (whole added left : List ℕ) (answer : T) → IsAdding before mid whole (added ++ left)
-    → Adds added (Ok answer) mid after → IsAdding before after whole left
+    → AddsToPage added (Ok answer) mid after → IsAdding before after whole left
 adding_more before mid after whole added left answer h adds = record {
   so_far = h.so_far ++ added;
   split = append_assoc h.so_far added left ∙ h.split;
@@ -103,9 +103,9 @@ cut_there before mid new whole added left h cut =
 -- ---- how it ends
 
 -- all parts were added
-pub adds_whole : {T : Type 0} (before now : Progress) (whole left : List ℕ) (answer : T) → left ≡ [] → IsAdding before now whole left → Adds whole (Ok answer) before now
+pub adds_whole : {T : Type 0} (before now : Progress) (whole left : List ℕ) (answer : T) → left ≡ [] → IsAdding before now whole left → AddsToPage whole (Ok answer) before now
 adds_whole before now whole left answer none h = record {
-  goes_on = subst (λ (l : List ℕ). GoesOn before now l) (sym (append-nil h.so_far) ∙ ap (λ l. h.so_far ++ l) (sym none) ∙ h.split) h.goes_on;
+  goes_on = subst (λ (l : List ℕ). IsAdded before now l) (sym (append-nil h.so_far) ∙ ap (λ l. h.so_far ++ l) (sym none) ∙ h.split) h.goes_on;
   prefix = tt;
   later = omega (arith, h.steady);
   failed = λ is. absurd cc;
@@ -114,7 +114,7 @@ adds_whole before now whole left answer none h = record {
 
 -- the next part ends early,
 cut_short : {T U : Type 0} (before mid after : Progress) (whole added left : List ℕ) (fault : OutsideFault) → IsAdding before mid whole (added ++ left)
-    → Adds added {T = T} (Err fault) mid after → Adds whole {T = U} (Err fault) before after
+    → AddsToPage added {T = T} (Err fault) mid after → AddsToPage whole {T = U} (Err fault) before after
 cut_short before mid after whole added left Failed h adds = record {
   goes_on = tt;
   prefix = cut_there before mid after.text whole added left h adds.prefix;
@@ -132,15 +132,15 @@ cut_short before mid after whole added left Memory h adds = record {
 
 -- and its fault is handed on
 pub adds_early : {T U : Type 0} (before mid after : Progress) (whole added left : List ℕ) (result : Result U OutsideFault) (fault made : OutsideFault)
-    → IsAdding before mid whole (added ++ left) → Adds added {T = T} (Err fault) mid after → result ≡ Err made → made ≡ fault → Adds whole result before after
+    → IsAdding before mid whole (added ++ left) → AddsToPage added {T = T} (Err fault) mid after → result ≡ Err made → made ≡ fault → AddsToPage whole result before after
 adds_early {T} {U} before mid after whole added left result fault made h adds is by =
-    subst (λ (r : Result U OutsideFault). Adds whole r before after) (sym (is ∙ ap Err by)) (cut_short before mid after whole added left fault h adds)
+    subst (λ (r : Result U OutsideFault). AddsToPage whole r before after) (sym (is ∙ ap Err by)) (cut_short before mid after whole added left fault h adds)
 
 -- memory ran out between two parts
 pub adds_memory : {T : Type 0} (before mid : Progress) (page whole left : List ℕ) (result : Result T OutsideFault) (made : OutsideFault)
-    → IsAdding before mid whole left → result ≡ Err made → made ≡ Memory → Adds whole result before (progress mid.text mid.faults page)
+    → IsAdding before mid whole left → result ≡ Err made → made ≡ Memory → AddsToPage whole result before (progress mid.text mid.faults page)
 adds_memory {T} before mid page whole left result made h is by =
-    subst (λ (r : Result T OutsideFault). Adds whole r before (progress mid.text mid.faults page)) (sym (is ∙ ap Err by)) (record {
+    subst (λ (r : Result T OutsideFault). AddsToPage whole r before (progress mid.text mid.faults page)) (sym (is ∙ ap Err by)) (record {
       goes_on = tt;
       prefix = cut_there before mid mid.text whole [] left h (prefix_none mid.text (mid.page ++ []));
       later = omega (arith, h.steady);
@@ -150,7 +150,7 @@ adds_memory {T} before mid page whole left result made h is by =
 
 -- the last part is added by a call whose answer is handed on
 pub adds_last : {T : Type 0} (before mid after : Progress) (whole last : List ℕ) (result : Result T OutsideFault) → IsAdding before mid whole last
-    → Adds last result mid after → Adds whole result before after
+    → AddsToPage last result mid after → AddsToPage whole result before after
 adds_last before mid after whole last (Ok answer) h adds =
     adds_whole before after whole [] answer refl (adding_more before mid after whole last [] answer (adding_as before mid whole last (last ++ []) (sym (append-nil last)) h) adds)
 adds_last before mid after whole last (Err fault) h adds =
@@ -160,20 +160,20 @@ adds_last before mid after whole last (Err fault) h adds =
 
 -- a line was written on the page, which is put where it is full
 pub line_added : {T : Type 0} (at after : Progress) (page added : List ℕ) (result : Result T OutsideFault) → page ≡ at.page ++ added
-    → Adds [] result (progress at.text at.faults page) after → Adds added result at after
+    → AddsToPage [] result (progress at.text at.faults page) after → AddsToPage added result at after
 line_added at after page added result is adds =
     adds_last at (progress at.text at.faults page) after added [] result (adding_pushed at at page added added [] (adding_as at at added added (added ++ []) (sym (append-nil added)) (adding_all at added)) is) adds
 
 -- memory ran out before anything was put
 pub memory_first : {T : Type 0} (at : Progress) (page whole : List ℕ) (result : Result T OutsideFault) (made : OutsideFault) → result ≡ Err made → made ≡ Memory
-    → Adds whole result at (progress at.text at.faults page)
+    → AddsToPage whole result at (progress at.text at.faults page)
 memory_first at page whole result made is by = adds_memory at at page whole whole result made (adding_all at whole) is by
 
 -- ---- the page is put
 
 -- nothing is added, and no page waits
 pub adds_put : {T : Type 0} (at : Progress) (new : Option (List ℕ)) (now : ℕ) (result : Result T OutsideFault) → Puts at.page result at.text new at.faults now
-    → Adds [] result at (progress new now [])
+    → AddsToPage [] result at (progress new now [])
 adds_put at new now result puts = record {
   goes_on = on_ok_weaker result (λ is. record { put = at.page; text = is; made = refl }) puts.all;
   prefix = on_err_weaker result (λ cut. prefix_longer at.text new at.page [] cut) puts.prefix;
@@ -183,7 +183,7 @@ adds_put at new now result puts = record {
 }
 
 -- where no page waits, all of the first page and of what was added was put
-puts_added : {T : Type 0} (before : Progress) (new : Option (List ℕ)) (now : ℕ) (whole : List ℕ) (result : Result T OutsideFault) → Adds whole result before (progress new now [])
+puts_added : {T : Type 0} (before : Progress) (new : Option (List ℕ)) (now : ℕ) (whole : List ℕ) (result : Result T OutsideFault) → AddsToPage whole result before (progress new now [])
     → Puts (before.page ++ whole) result before.text new before.faults now
 puts_added before new now whole result adds = record {
   all = on_ok_weaker result (λ h. h.text ∙ ap (append_known before.text) (sym (append-nil h.put) ∙ h.made)) adds.goes_on;
@@ -203,7 +203,7 @@ puts_last before mid bytes front new now whole result first last h puts =
 
 -- a text of which a part ends early
 pub puts_early : {T : Type 0} (before after : Progress) (front whole : List ℕ) (result : Result T OutsideFault) (made : OutsideFault) → before.page ≡ front → result ≡ Err made
-    → Adds whole result before after → Puts (front ++ whole) result before.text after.text before.faults after.faults
+    → AddsToPage whole result before after → Puts (front ++ whole) result before.text after.text before.faults after.faults
 puts_early before after front whole result made first is adds = subst (λ (l : List ℕ). Puts (l ++ whole) result before.text after.text before.faults after.faults) first (record {
   all = subst (λ r. OnOk r (after.text ≡ append_known before.text (before.page ++ whole))) (sym is) tt;
   prefix = adds.prefix;

@@ -1,6 +1,6 @@
 -- A text on its way to a sink, which takes it in large pieces: each part is added to a page that waits.
---     GoesOn before after added         the part was added, and stands in what was put or on the page
---     Adds added result before after    what a call that adds this part does, by what it answers
+--     IsAdded before after added         the part was added, and stands in what was put or on the page
+--     AddsToPage added result before after    what a call that adds this part does, by what it answers
 use Rattle.std.specs.Prelude.{ℕ, List, ◌≡◌, ◌≤◌, ◌++◌, Option, Result, OnOk, OnErr, IsTrue}
 use Rattle.std.specs.Io.KnownBytes.{append_known}
 use Rattle.outside.specs.Faults.{Rose, Steady, is_failed}
@@ -17,16 +17,16 @@ abbrev pub progress : Option (List ℕ) → ℕ → List ℕ → Progress
 progress text faults page = record { text = text; faults = faults; page = page }
 
 -- what was put and the page now are the page before and the part that was added
-pub record GoesOn (before after : Progress) (added : List ℕ) : Type 0 where
+pub record IsAdded (before after : Progress) (added : List ℕ) : Type 0 where
   pub put : List ℕ
   pub text : after.text ≡ append_known before.text put
   pub made : put ++ after.page ≡ before.page ++ added
 
 -- the part was added, or after a refusal a prefix of the page and of the part was put; and the count of faults rose where a
 -- fault is answered, and stays otherwise
-pub record Adds (added : List ℕ) {T : Type 0} (result : Result T OutsideFault)
+pub record AddsToPage (added : List ℕ) {T : Type 0} (result : Result T OutsideFault)
     (before after : Progress) : Type 0 where
-  pub goes_on : OnOk result (GoesOn before after added)
+  pub goes_on : OnOk result (IsAdded before after added)
   pub prefix : OnErr result (AppendsPrefix before.text after.text (before.page ++ added))
   pub later : before.faults ≤ after.faults
   pub failed : IsTrue (is_failed result) → Rose before.faults after.faults
