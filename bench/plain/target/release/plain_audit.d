@@ -1,1 +1,0 @@
-/work/main/bench/plain/target/release/plain_audit: /work/main/bench/plain/src/build.rs /work/main/bench/plain/src/json.rs /work/main/bench/plain/src/main.rs /work/main/bench/plain/src/report.rs /work/main/bench/plain/src/search.rs /work/main/bench/plain/src/steno.rs
