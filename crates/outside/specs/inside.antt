@@ -1,2 +1,3 @@
 -- What only private functions, invariants and proofs cite.
+pub mod Gathering
 pub mod Places

@@ -1,5 +1,6 @@
 //! Objects over the runtime's files and its standard output. They tell contracts no bytes: here the proofs end.
 
+mod gathering;
 mod real_files;
 mod real_sink;
 

@@ -5,20 +5,23 @@ ghost use Rattle.std.specs.Prelude.{◌≡◌, None};
 ghost use Rattle.outside.specs.Files.{untouched};
 
 use crate::places::Places;
+use crate::real::gathering::{GATHERED, make_room, write_out};
 use crate::{Failed, Files, OutsideFault};
 use std::alloc::Global;
 use std::fs;
 use std::io::{Read, Write};
 
 /// Real files, one open for reading and one for writing at a time. Each error of the system is a fault and raises the
-/// count, which stays at its last value 2^64 - 1. A folder can be opened, and then reading it fails. A piece that is read
-/// or written is one call of the system.
+/// count, which stays at its last value 2^64 - 1. A folder can be opened, and then reading it fails. A piece that is read is
+/// one call of the system. What is put is gathered: the system is given 64 KiB at once, and the rest when the writing ends.
+/// So a file whose writing isn't ended may lack its last bytes. After a refused piece nothing more is written to the file.
 #[derive(Drop)]
 pub struct RealFiles<'a, R: std::rt::Files> {
     rt: &'a R,
     places: Places,
     reading: Option<R::File>,
     writing: Option<R::File>,
+    gathered: Vec<u8>,
 }
 
 impl<'a, R: std::rt::Files> RealFiles<'a, R> {
@@ -31,6 +34,7 @@ impl<'a, R: std::rt::Files> RealFiles<'a, R> {
             places: Places::new(alloc),
             reading: None,
             writing: None,
+            gathered: Vec::new(alloc),
         }
     }
 }
@@ -75,6 +79,11 @@ impl<R: std::rt::Files> Files for RealFiles<'_, R> {
     fn begin(&mut self, name: &str) -> Result<(), OutsideFault> {
         self.reading = None;
         self.writing = None;
+        self.gathered.clear();
+        if self.gathered.reserve(GATHERED).is_err() {
+            self.places.end();
+            return Err(OutsideFault::Memory);
+        }
         self.places.begin(name)?;
         match fs::create(self.rt, name) {
             Ok(file) => {
@@ -90,20 +99,19 @@ impl<R: std::rt::Files> Files for RealFiles<'_, R> {
     }
 
     fn put(&mut self, piece: &[u8]) -> Result<usize, OutsideFault> {
-        if let Some(file) = &mut self.writing {
-            if let Ok(count) = file.write(piece) {
-                if count > 0 {
-                    return Ok(count);
-                }
-            }
+        if !make_room(&mut self.writing, &mut self.gathered) {
+            self.writing = None;
+            self.places.note_writing();
+            return Err(OutsideFault::Failed);
         }
-        self.places.note_writing();
-        Err(OutsideFault::Failed)
+        let count = piece.len().min(GATHERED - self.gathered.len());
+        self.gathered.extend_from_slice(&piece[..count])?;
+        Ok(count)
     }
 
     fn end(&mut self) -> Result<(), Failed> {
         let flushed = match &mut self.writing {
-            Some(file) => file.flush().is_ok(),
+            Some(file) => write_out(file, &mut self.gathered) && file.flush().is_ok(),
             None => true,
         };
         if !flushed {

@@ -38,13 +38,20 @@ fn read_fault(rt: &impl System, alloc: Global, path: &str, limit: u32) -> Option
     read_all(alloc, &mut files, path, limit as u64).err()
 }
 
+/// Writes three bytes to a file.
+fn write_three<F: Files>(files: &mut F, path: &str) -> Result<(), OutsideFault> {
+    files.begin(path)?;
+    write_all_file(files, b"one")?;
+    match files.end() {
+        Ok(()) => Ok(()),
+        Err(_) => Err(OutsideFault::Failed),
+    }
+}
+
 /// The fault at writing three bytes to a file.
 fn write_fault(rt: &impl System, alloc: Global, path: &str) -> Option<OutsideFault> {
     let mut files = RealFiles::new(rt, alloc);
-    match files.begin(path) {
-        Ok(()) => write_all_file(&mut files, b"one").err(),
-        Err(fault) => Some(fault),
-    }
+    write_three(&mut files, path).err()
 }
 
 /// Files of these lengths are written and read back.
