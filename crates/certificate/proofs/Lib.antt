@@ -1,0 +1,14 @@
+pub mod LineTexts
+pub mod FirstLines
+pub mod Examples
+pub mod Values
+pub mod Places
+pub mod Spaced
+pub mod Parts
+pub mod RowLines
+pub mod Passing
+pub mod Reaching
+pub mod PartsJoined
+pub mod Endings
+pub mod Skips
+pub mod LongRows
