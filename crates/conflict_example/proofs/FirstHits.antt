@@ -14,9 +14,9 @@ use Rattle.closure_laws.specs.Examples.{IsChosen}
 use Rattle.closure_laws.proofs.HitNumberLemmas.{Conflict-number}
 use Rattle.closure_laws.proofs.StateNumberLemmas.{shape_of_state, shaped-below}
 use Rattle.closure_laws.proofs.NumberStateLemmas.{state_of_number-is}
-use Rattle.conflict_example.specs.inside.Slots.{IsInside, first_slot, slot_of}
-use Rattle.conflict_example.specs.inside.FirstHits.{AreFirst, HasNoHit, IsFirstHit, IsFirstOf, hit_word}
-use Rattle.conflict_example.proofs.Slots.{slots_apart}
+use Rattle.pair_slots.specs.Slots.{IsInside, first_slot, slot_of}
+use Rattle.conflict_example.specs.inside.FirstHits.{AreFirst, HasNoHitBelow, IsFirstHit, IsFirstOf, hit_word}
+use Rattle.pair_slots.proofs.Slots.{slots_apart}
 
 -- a number up to b
 last_or_below : (other b : ℕ) → other < b + 1 → (other ≡ b) ⊎ (other < b)
@@ -168,7 +168,7 @@ first_chosen entries words e place bound word are all few h = record {
 
 -- Where none is left there is no conflict.
 pub none_left : (entries words : List (List ℕ)) (table : List ℕ) (e place bound : ℕ) → AreWords entries words → AreSettled 0 (kept_lists entries words) table →
-    bound ≡ number_count entries → HasNoHit entries words e place bound → Conflict entries words e place → ⊥
+    bound ≡ number_count entries → HasNoHitBelow entries words e place bound → Conflict entries words e place → ⊥
 none_left entries words table e place bound are settled all none conflict =
     let hit = (Conflict-number entries words table e place are settled).0 conflict in
     none hit.0 hit.1 (omega (arith, hit_below entries words e place hit.0 hit.1 are hit.2, all)) hit.2

@@ -1,4 +1,3 @@
-pub mod Slots
 pub mod SettledWords
 pub mod FirstHits
 pub mod Spellings
@@ -6,6 +5,5 @@ pub mod FoundRows
 pub mod RowSteps
 pub mod States
 pub mod Walks
-pub mod Starts
 pub mod Noted
 pub mod AtStack

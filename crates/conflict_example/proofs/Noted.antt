@@ -1,37 +1,29 @@
 -- What one reached number changes, and what the chosen hits are in the end.
-use Rattle.std.proofs.Common.{◌≡◌, ◌≢◌, ℕ, ◌+◌, ◌/◌, ◌%◌, ◌<◌, ◌≤◌, min, List, length, get_or, set, refl, sym, ap, subst, ◌∙◌, arith, inl, inr, Option, Some, None}
+use Rattle.std.proofs.Common.{◌≡◌, ◌≢◌, ℕ, ◌+◌, ◌/◌, ◌%◌, ◌<◌, ◌≤◌, min, List, length, get_or, set, refl, sym, ap, subst, ◌∙◌, arith, inl, inr, Some}
 use Rattle.std.proofs.lemmas.Nat.{div-mul-add, mod-mul-add, div-add-mod'}
 use Rattle.std.proofs.lemmas.List.{get_or-set_same, get_or-set_other, length-set}
 use Rattle.graph_rules.specs.Graphs.{unreached, IsSettledWord, IsBest}
-use Rattle.steno_rules.specs.Outlines.{AreEntries, outline_of}
+use Rattle.steno_rules.specs.Outlines.{AreEntries}
 use Rattle.steno_rules.specs.ClosureGraphs.{kept_lists}
 use Rattle.steno_rules.specs.Conflicts.{Conflict}
 use Rattle.steno_rules.specs.StateNumbers.{number_count, state_of_number}
-use Rattle.steno_rules.specs.States.{State, IsHit, IsHitMark, kept_targets}
+use Rattle.steno_rules.specs.States.{State, IsHit, kept_targets}
 use Rattle.closure_laws.proofs.GraphLemmas.{length-lists}
 use Rattle.closure_laws.specs.Examples.{example}
 use Rattle.state_numbering.specs.Numberings.{NumberingView}
 use Rattle.conflict_example.specs.inside.Closures.{IsClosure, IsWalkEnd}
 use Rattle.conflict_example.specs.inside.FirstHits.{AreFirst, IsFirstHit, IsFirstOf, hit_word}
 use Rattle.conflict_example.specs.inside.FoundRows.{IsFoundRow}
-use Rattle.conflict_example.specs.inside.Slots.{IsInside, slot_of}
+use Rattle.pair_slots.specs.Slots.{slot_of}
 use Rattle.conflict_example.specs.inside.Spellings.{numbers_among}
 use Rattle.conflict_example.proofs.FirstHits.{first_chosen, first_with, first_without, none_left}
 use Rattle.conflict_example.proofs.FoundRows.{row_found}
 use Rattle.conflict_example.proofs.SettledWords.{reached_best, unreached_none}
-use Rattle.conflict_example.proofs.Slots.{slot_below}
+use Rattle.pair_slots.proofs.Slots.{hit_inside, slot_below}
 
 -- the graph has as many numbers
 pub graph_count : (entries words : List (List ℕ)) → length (kept_lists entries words) ≡ number_count entries
 graph_count entries words = length-lists entries words (kept_targets entries words)
-
--- The place of a hit lies inside its entry.
-pub hit_inside : (entries : List (List ℕ)) (s : State) (e place : ℕ) → e < length entries → IsHit entries s e place → IsInside entries e place
-hit_inside entries s e place inside h = by s.mark (length (outline_of entries e)) h.mark (λ some fits. record { entry = inside; after_start = some; before_end = fits })
-  where
-    by : (m : Option ℕ) (n : ℕ) → IsHitMark m n place → (0 < place → place < n → IsInside entries e place) → IsInside entries e place
-    by None n h make = absurd h
-    by (Some m) n h make = make (omega (arith, h.0, h.1, h.2)) (omega (arith, h.0, h.1, h.2))
 
 -- a hit's word, by the settled word of its number, is small
 word_small : (word number : ℕ) → word < 18446744073709551616 → number < 33554432 → hit_word (word / 4294967296) number < unreached

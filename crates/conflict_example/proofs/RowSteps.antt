@@ -10,7 +10,7 @@ use Rattle.steno_rules.specs.Conflicts.{Conflict}
 use Rattle.longest_match.specs.Rows.{AreConflicts, AreSmall, IsBefore, Row}
 use Rattle.conflict_example.specs.Chosen.{AreChosen}
 use Rattle.conflict_example.specs.inside.FoundRows.{AreRowsBefore, IsFoundRow, IsPairBefore}
-use Rattle.conflict_example.proofs.Slots.{few_slots, next_slots}
+use Rattle.pair_slots.proofs.Slots.{few_slots, next_slots}
 
 -- Before the first pair there is no row.
 pub rows_none : (entries words : List (List ℕ)) (table : List ℕ) → AreRowsBefore entries words table 0 1 []

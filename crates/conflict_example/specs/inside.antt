@@ -1,4 +1,3 @@
-pub mod Slots
 pub mod FirstHits
 pub mod Spellings
 pub mod FoundRows

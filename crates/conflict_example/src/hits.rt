@@ -1,43 +1,26 @@
 //! The chosen hits: for each pair of an entry and an inner place the nearest hit, and of those the one of least number.
 
-ghost use Rattle.std.specs.Prelude.{◌≡◌, ◌≢◌, ◌+◌, ◌<◌, ◌≤◌, All, IfOk, length, min, slice_set, get_or};
+ghost use Rattle.std.specs.Prelude.{◌≡◌, ◌≢◌, ◌+◌, ◌<◌, ◌≤◌, IfOk, length, min, slice_set, get_or};
 ghost use Rattle.graph_rules.specs.Graphs.{IsSettledWord, unreached};
 ghost use Rattle.steno_rules.specs.ClosureGraphs.{kept_lists};
-ghost use Rattle.steno_rules.specs.Outlines.{AreEntries, IsOutline};
+ghost use Rattle.steno_rules.specs.Outlines.{AreEntries};
 ghost use Rattle.steno_rules.specs.StateNumbers.{number_count};
-ghost use Rattle.dict_stack.specs.Stacks.{most_entries};
 ghost use Rattle.state_numbering.specs.Causes.{most_states};
 ghost use Rattle.conflict_example.specs.inside.Closures.{IsClosure};
 ghost use Rattle.conflict_example.specs.inside.FirstHits.{AreFirst};
-ghost use Rattle.conflict_example.specs.inside.Slots.{AreStarts};
+ghost use Rattle.pair_slots.specs.Slots.{AreStarts};
 
 use state_numbering::Numbering;
 use std::alloc::{AllocError, Global};
-use stroke::Outline;
 
 /// A settled word is a distance times so much, and a number.
 pub(crate) const NUMBERS: u64 = 1 << 32;
 
-/// Where the slots of each outline begin, and at the end how many there are.
-pub(crate) fn starts_of(alloc: Global, outlines: &[Outline]) -> Result<Vec<u32>, AllocError>
-    requires outlines { All IsOutline outlines.now }
-    requires few { length outlines.now ≤ most_entries }
-    ensures { IfOk result (λ starts. AreStarts outlines.now starts.items) }
-{
-    let mut starts = Vec::with_capacity(alloc, outlines.len() + 1)?;
-    let mut end = 0;
-    starts.push(end)?;
-    for outline in outlines {
-        end += outline.strokes().len().saturating_sub(1) as u32;
-        starts.push(end)?;
-    }
-    Ok(starts)
-}
-
 /// Puts the lesser of the slot's word and this one into the slot.
 fn keep_lesser(best: &mut Vec<u64>, slot: usize, word: u64)
     requires { slot < length best.old.items }
-    ensures { best.new.items ≡ slice_set best.old.items slot (min (get_or best.old.items slot 0) word) }
+    ensures { best.new.items
+        ≡ slice_set best.old.items slot (min (get_or best.old.items slot 0) word) }
 {
     best[slot] = best[slot].min(word);
 }
@@ -47,7 +30,8 @@ fn note(best: &mut Vec<u64>, numbering: &Numbering<'_>, starts: &[u32], number: 
     requires starts { AreStarts numbering.now.entries starts.now }
     requires few { number_count numbering.now.entries ≤ most_states }
     requires below { number < number_count numbering.now.entries }
-    requires settled { IsSettledWord 0 (kept_lists numbering.now.entries numbering.now.words) number word }
+    requires settled { IsSettledWord
+        0 (kept_lists numbering.now.entries numbering.now.words) number word }
     requires entries { AreEntries numbering.now.entries }
     requires reached { word ≢ unreached }
     requires first { AreFirst numbering.now.entries numbering.now.words number best.old.items }

@@ -9,12 +9,13 @@ ghost use Rattle.conflict_example.specs.Chosen.{AreChosen, words_in_stack};
 ghost use Rattle.conflict_example.specs.inside.Closures.{IsClosure};
 ghost use Rattle.conflict_example.specs.inside.FirstHits.{AreFirst, IsFirstHit};
 ghost use Rattle.conflict_example.specs.inside.FoundRows.{AreRowsBefore, IsFoundRow};
-ghost use Rattle.conflict_example.specs.inside.Slots.{AreStarts};
+ghost use Rattle.pair_slots.specs.Slots.{AreStarts};
 
 use crate::examples::{Scratch, example};
-use crate::hits::{NUMBERS, first_hits, starts_of};
+use crate::hits::{NUMBERS, first_hits};
 use dict_stack::Stack;
 use longest_match::Conflict;
+use pair_slots::starts_of;
 use state_numbering::Numbering;
 use std::alloc::{AllocError, Global};
 
@@ -61,7 +62,8 @@ fn push_rows(
     requires best { let v = numbering.now in
         AreFirst v.entries v.words (number_count v.entries) slots.1.now }
     requires entry { entry < length stack.now.outlines }
-    requires before { AreRowsBefore numbering.now.entries numbering.now.words words.now entry 1 rows.old.items }
+    requires before { let v = numbering.now in
+        AreRowsBefore v.entries v.words words.now entry 1 rows.old.items }
     ensures { let v = numbering.now in
         OnOk result (AreRowsBefore v.entries v.words words.now (entry + 1) 1 rows.new.items) }
 {
@@ -121,8 +123,10 @@ pub fn conflicts(
 ) -> Result<Vec<Conflict>, AllocError>
     requires entries { numbering.now.entries ≡ stack.now.outlines }
     requires words { numbering.now.words ≡ words_in_stack stack.now }
-    requires settled { AreSettled 0 (kept_lists numbering.now.entries numbering.now.words) words.now }
-    ensures exact { IfOk result (λ rows. AreConflicts stack.now.outlines (words_in_stack stack.now) rows.items) }
+    requires settled { AreSettled
+        0 (kept_lists numbering.now.entries numbering.now.words) words.now }
+    ensures exact { IfOk result (λ rows.
+        AreConflicts stack.now.outlines (words_in_stack stack.now) rows.items) }
     ensures chosen { IfOk result (λ rows.
         AreChosen stack.now.outlines (words_in_stack stack.now) words.now rows.items) }
     ensures small { IfOk result (λ rows. AreSmall stack.now.outlines rows.items) }

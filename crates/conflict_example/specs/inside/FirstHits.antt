@@ -5,14 +5,14 @@
 use Rattle.std.specs.Prelude.{ℕ, ◌≡◌, ◌+◌, ◌*◌, ◌<◌, ◌≤◌, ◌⊎◌, List, length, get_or}
 use Rattle.graph_rules.specs.Graphs.{unreached}
 use Rattle.closure_laws.specs.NumberedHits.{IsHitNumber}
-use Rattle.conflict_example.specs.inside.Slots.{IsInside, first_slot, slot_of}
+use Rattle.pair_slots.specs.Slots.{IsInside, first_slot, slot_of}
 
 abbrev pub hit_word : ℕ → ℕ → ℕ
 hit_word n number = n * 4294967296 + number
 
 -- no number below the bound is that of a hit of the pair
-abbrev pub HasNoHit : List (List ℕ) → List (List ℕ) → ℕ → ℕ → ℕ → Type 0
-HasNoHit entries words e place bound =
+abbrev pub HasNoHitBelow : List (List ℕ) → List (List ℕ) → ℕ → ℕ → ℕ → Type 0
+HasNoHitBelow entries words e place bound =
     (number n : ℕ) → number < bound → IsHitNumber entries words e place number n → ⊥
 
 pub record IsFirstHit (entries words : List (List ℕ)) (e place bound word : ℕ) : Type 0 where
@@ -26,7 +26,7 @@ pub record IsFirstHit (entries words : List (List ℕ)) (e place bound word : �
 
 abbrev pub IsFirstOf : List (List ℕ) → List (List ℕ) → ℕ → ℕ → ℕ → ℕ → Type 0
 IsFirstOf entries words e place bound word =
-    (HasNoHit entries words e place bound × (word ≡ unreached))
+    (HasNoHitBelow entries words e place bound × (word ≡ unreached))
     ⊎ IsFirstHit entries words e place bound word
 
 pub record AreFirst (entries words : List (List ℕ)) (bound : ℕ) (best : List ℕ) : Type 0 where

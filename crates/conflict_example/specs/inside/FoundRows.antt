@@ -5,7 +5,7 @@ use Rattle.std.specs.Prelude.{ℕ, ◌≡◌, ◌<◌, ◌≤◌, ◌⊎◌, Lis
 use Rattle.steno_rules.specs.Conflicts.{Conflict}
 use Rattle.longest_match.specs.Rows.{HasRow, IsBefore, IsShortest, IsSmall, Row}
 use Rattle.conflict_example.specs.Chosen.{IsChosenRow}
-use Rattle.conflict_example.specs.inside.Slots.{slot_of}
+use Rattle.pair_slots.specs.Slots.{slot_of}
 
 pub record IsFoundRow (entries words : List (List ℕ)) (table : List ℕ) (row : Row) : Type 0 where
   pub shortest : IsShortest entries words row

@@ -1,6 +1,6 @@
 use Rattle.std.proofs.Common.{◌≡◌, ◌+◌, ◌-◌, ◌*◌, ◌/◌, get_or, arith, ap}
 use Rattle.conflict_example.proofs.Noted.{noted, not_noted}
-use Rattle.conflict_example.specs.inside.Slots.{slot_of}
+use Rattle.pair_slots.specs.Slots.{slot_of}
 use Rattle.conflict_example.proofs.hits.note.Goals as goal
 
 pub returns-in-Some : goal.returns-in-Some

@@ -1,6 +1,6 @@
 use Rattle.std.proofs.Common.{◌≡◌, ◌+◌, ◌-◌, ◌∙◌, sym, ap, arith, get_or, length, List, ℕ}
 use Rattle.steno_rules.specs.Outlines.{outline_of}
-use Rattle.conflict_example.specs.inside.Slots.{IsInside, slot_of}
+use Rattle.pair_slots.specs.Slots.{IsInside, slot_of}
 use Rattle.conflict_example.proofs.Noted.{slot_none}
 use Rattle.conflict_example.proofs.RowSteps.{rows_with, rows_without}
 use Rattle.conflict_example.proofs.rows.push_rows.Goals as goal

@@ -3,8 +3,8 @@ use Rattle.std.proofs.Common.{◌≡◌, ℕ, ◌+◌, ◌<◌, ◌≤◌, zero,
 use Rattle.std.proofs.lemmas.Bool.{cases_lt}
 use Rattle.std.proofs.lemmas.List.{get_or_append_left, get_or_at, length_push}
 use Rattle.steno_rules.specs.Outlines.{IsOutline, outline_of}
-use Rattle.conflict_example.specs.inside.Slots.{AreStarts, first_slot, inner_places}
-use Rattle.conflict_example.proofs.Slots.{few_slots, next_slots}
+use Rattle.pair_slots.specs.Slots.{AreStarts, first_slot, inner_places}
+use Rattle.pair_slots.proofs.Slots.{few_slots, next_slots}
 
 -- the first so many outlines have their starts, and the next one's is the last
 pub record AreStartsSoFar (outlines : List (List ℕ)) (n end : ℕ) (starts : List ℕ) : Type 0 where

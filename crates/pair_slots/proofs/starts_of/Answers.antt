@@ -1,9 +1,9 @@
 use Rattle.std.proofs.Common.{◌≡◌, ◌∙◌, arith, ap, length}
 use Rattle.std.proofs.lemmas.List.{get_or_read}
 use Rattle.steno_rules.specs.Outlines.{outline_of}
-use Rattle.conflict_example.specs.inside.Slots.{inner_places}
-use Rattle.conflict_example.proofs.Starts.{start_small}
-use Rattle.conflict_example.proofs.hits.starts_of.Goals as goal
+use Rattle.pair_slots.specs.Slots.{inner_places}
+use Rattle.pair_slots.proofs.Starts.{start_small}
+use Rattle.pair_slots.proofs.starts_of.Goals as goal
 
 pub overflow_add-end : goal.overflow_add-end
 overflow_add-end c =

@@ -1,9 +1,10 @@
 -- The slots of different pairs differ.
-use Rattle.std.proofs.Common.{◌≡◌, ℕ, ◌+◌, ◌-◌, ◌*◌, ◌<◌, ◌≤◌, List, [], length, All, ap, zero, suc, arith, inl, inr}
+use Rattle.std.proofs.Common.{◌≡◌, ℕ, ◌+◌, ◌-◌, ◌*◌, ◌<◌, ◌≤◌, List, [], length, All, ap, zero, suc, arith, inl, inr, Option, None, Some}
 use Rattle.std.proofs.lemmas.Bool.{cases_order}
 use Rattle.std.proofs.lemmas.List.Sums.{sum_by_more}
 use Rattle.steno_rules.specs.Outlines.{IsOutline, outline_of}
-use Rattle.conflict_example.specs.inside.Slots.{IsInside, inner_places, first_slot, slot_of}
+use Rattle.steno_rules.specs.States.{State, IsHit, IsHitMark}
+use Rattle.pair_slots.specs.Slots.{IsInside, inner_places, first_slot, slot_of}
 
 -- the slots of the next entry begin behind those of this one
 pub next_slots : (entries : List (List ℕ)) (e : ℕ) → e < length entries →
@@ -58,3 +59,11 @@ few_slots entries (suc e) are fits =
     let few : length (outline_of entries e) ≤ 64 = (are e [] (omega arith)).at_most in
     let is : e + 1 ≡ suc e = omega arith in
     omega (arith, before, few, next_slots entries e (omega arith), ap (first_slot entries) is)
+
+-- The place of a hit lies inside its entry.
+pub hit_inside : (entries : List (List ℕ)) (s : State) (e place : ℕ) → e < length entries → IsHit entries s e place → IsInside entries e place
+hit_inside entries s e place inside h = by s.mark (length (outline_of entries e)) h.mark (λ some fits. record { entry = inside; after_start = some; before_end = fits })
+  where
+    by : (m : Option ℕ) (n : ℕ) → IsHitMark m n place → (0 < place → place < n → IsInside entries e place) → IsInside entries e place
+    by None n h make = absurd h
+    by (Some m) n h make = make (omega (arith, h.0, h.1, h.2)) (omega (arith, h.0, h.1, h.2))
