@@ -1,0 +1,12 @@
+pub mod ReadLemmas
+pub mod StageLemmas
+pub mod RunLemmas
+pub mod AnswerLemmas
+pub mod UpperLoop
+pub mod RowLoop
+pub mod CheckLemmas
+pub mod MoveLemmas
+pub mod LeastLemmas
+pub mod FoundLemmas
+pub mod ListingChecks
+pub mod RowAnswers

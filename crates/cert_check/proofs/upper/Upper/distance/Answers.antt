@@ -1,0 +1,20 @@
+use Rattle.std.proofs.Common.{subst, ◌+◌}
+use Rattle.cert_check.specs.inside.Runs.{ListsRun}
+use Rattle.certificate_laws.specs.Closures.{closure_of}
+use Rattle.report.specs.declared.faults.Why.TheVariants as why
+use Rattle.cert_check.proofs.AnswerLemmas.{distance_answers, lists_closure, lists_sound, no_failure}
+use Rattle.cert_check.proofs.upper.Upper.distance.Goals as goal
+
+pub returns-clause-answers : goal.returns-clause-answers
+returns-clause-answers c flags are words =
+    let old = c.args.self.now in let new = c.list.new.self in let numbering = c.args.numbering.now in
+    distance_answers (closure_of numbering.entries flags) old new c.args.state c.args.distance c.may_list_state-may_follow.result c.in_ok-is_right.is_right c.failure_of.result c.failure_of.ensures c.may_list_state-may_follow.ensures
+    (λ is. lists_closure numbering.entries numbering.words flags (old.lines + 1) c.args.state c.args.state c.args.distance old.places.items new.places.items c.in_ok-is_right.is_right are words c.requires.sound.last (c.in_ok-is_right.ensures.listed is))
+    (λ is content_check. (c.in_ok-is_right.ensures.listed is).adds content_check) c.list.ensures.lines c.list.ensures.version
+
+pub returns-clause-sound : goal.returns-clause-sound
+returns-clause-sound c none =
+    let old = c.args.self.now in let new = c.list.new.self in let numbering = c.args.numbering.now in
+    let both = no_failure c.may_list_state-may_follow.result c.in_ok-is_right.is_right why.Number c.failure_of.result c.failure_of.ensures none in
+    lists_sound numbering.entries numbering.words (old.lines + 1) c.args.state c.args.state c.args.distance old new c.requires.sound
+    (subst (ListsRun numbering.entries numbering.words (old.lines + 1) c.args.state c.args.state c.args.distance old.places.items new.places.items) both.1 (c.in_ok-is_right.ensures.listed both.0)) c.list.ensures.lines

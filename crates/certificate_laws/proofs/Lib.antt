@@ -1,0 +1,11 @@
+pub mod HoldLemmas
+pub mod UpperLemmas
+pub mod HitLemmas
+pub mod ListingLemmas
+pub mod RowTests
+pub mod RowLemmas
+pub mod PairLemmas
+pub mod ConflictRows
+pub mod NearLemmas
+pub mod KeptMoves
+pub mod LimitLemmas

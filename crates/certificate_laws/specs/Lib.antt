@@ -1,0 +1,5 @@
+pub mod Closures
+pub mod Checks
+pub mod RowTests
+pub mod Validity
+pub mod inside
