@@ -1,0 +1,8 @@
+pub mod PartLemmas
+pub mod NodeLemmas
+pub mod DecodeLemmas
+pub mod TargetLemmas
+pub mod MoveLemmas
+pub mod EndingLemmas
+pub mod HalvesLemmas
+pub mod WalkLemmas

@@ -1,0 +1,4 @@
+pub mod FreeGraphs
+pub mod Cursors
+pub mod FoundReadings
+pub mod inside

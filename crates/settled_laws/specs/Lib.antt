@@ -1,0 +1,3 @@
+pub mod SettledPairs
+pub mod OpenHits
+pub mod OpenNumbers
