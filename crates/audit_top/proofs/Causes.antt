@@ -1,5 +1,6 @@
 -- When the expected status of each command may be which.
 use Rattle.longest_match.specs.Rows.{Row}
+use Rattle.round_core.specs.Searches.{SettledView}
 use Rattle.state_numbering.specs.Causes.{most_states}
 use Rattle.steno_rules.specs.StateNumbers.{number_count}
 use Rattle.std.proofs.Common.{ℕ, ◌+◌, ◌≡◌, ◌⊎◌, inl, inr, List, [], ◌∷◌, Bool, true, false, cond, nat_lt, length, sym, subst, refl, Option, Some, None, IfSome}
@@ -11,8 +12,8 @@ use Rattle.outline_trie.specs.declared.trie.TheConstants.Trie.{MAX_NODES}
 use Rattle.report.specs.Refusals.{RefusalView, refusal_text, too_many_dictionaries, too_many_bytes, too_many_entries, too_many_nodes, too_many_states}
 use Rattle.dict_files.specs.Refusals.{dictionaries_refusal, file_refusal, first_of, first_refusal, if_over, outcome_refusal, outline_count, stack_from}
 use Rattle.dict_files.specs.declared.loading.TheConstants.{MAX_BYTES}
-use Rattle.audit_top.specs.Commands.{CommandView, replay, generate, checks, finds, audit}
-use Rattle.audit_top.specs.Expected.{Expected, Inputs, IsExpected, IsReplay, OverStack, UnlessRefused, prints, trie_limit, IsAudit, search_limit}
+use Rattle.audit_top.specs.Commands.{CommandView, replay, generate, checks, finds, audit, audit_generated}
+use Rattle.audit_top.specs.Expected.{Expected, Inputs, IsExpected, IsReplay, OverStack, UnlessRefused, prints, trie_limit, IsAudit, IsSummary, PrintsConflicts, counts_alone, entries_limit, generated_stack, search_limit, whole_report}
 use Rattle.audit_top.specs.Statuses.{audit_status, refusal_status}
 use Rattle.audit_top.specs.declared.status.Status.{Status}
 use Rattle.audit_top.specs.declared.status.Status.TheVariants.{Clean, Conflicts, Words, File, Refused, Limit, Output, Rejected}
@@ -61,6 +62,9 @@ input-trie stack = input-over MAX_NODES too_many_nodes (length (nodes stack.outl
 pub input-search : (stack : StackView) → IfSome (search_limit stack) IsInput
 input-search stack = input-first (trie_limit stack) _ (input-trie stack) (input-over most_states too_many_states (number_count stack.outlines) (inr refl))
 
+input-entries : (stack : StackView) → IfSome (entries_limit stack) IsInput
+input-entries stack = input-first (if_over most_entries too_many_entries (length stack.outlines)) (search_limit stack) (input-over most_entries too_many_entries (length stack.outlines) (inr refl)) (input-search stack)
+
 -- ---- statuses
 
 -- the statuses that a command may be expected to end with
@@ -94,9 +98,13 @@ fits-over command limit Follows args contents result input follows is =
 fits-found : (command : Option CommandView) (text : List ℕ) → finds command ≡ true → Fits command (prints Conflicts text)
 fits-found command text finds = record { found = λ e. finds; arguments = λ e. absurd cc; file = λ e. cc; output = λ e. cc; rejected = λ e. absurd cc }
 
-fits-audit : (workers : ℕ) (dicts : List (List ℕ)) (text : List ℕ) (rows : List Row) → Fits (Some (audit workers dicts)) (prints (audit_status rows) text)
-fits-audit workers dicts text [] = fits-clean (Some (audit workers dicts)) text
-fits-audit workers dicts text (row ∷ rows) = fits-found (Some (audit workers dicts)) text refl
+fits-rows : (command : Option CommandView) (text : List ℕ) (rows : List Row) → finds command ≡ true → Fits command (prints (audit_status rows) text)
+fits-rows command text [] finds = fits-clean command text
+fits-rows command text (row ∷ rows) finds = fits-found command text finds
+
+-- of an audit
+fits-conflicts : (command : Option CommandView) (text : StackView → SettledView → List Row → List ℕ) (stack : StackView) (result : Expected) → finds command ≡ true → PrintsConflicts text stack result → Fits command result
+fits-conflicts command text stack result finds is = subst (λ (r : Expected). Fits command r) (sym is.produces) (fits-rows command (text stack is.searched is.rows) is.rows finds)
 
 pub fits : (inputs : Inputs) (command : Option CommandView) (result : Expected) → IsExpected inputs command result → Fits command result
 fits inputs None result is = subst (λ (r : Expected). Fits None r) (sym is) (record { found = λ e. absurd cc; arguments = λ e. refl; file = λ e. cc; output = λ e. cc; rejected = λ e. absurd cc })
@@ -105,8 +113,12 @@ fits inputs (Some (replay outline dicts)) result is =
     (λ s r e. subst (λ (r : Expected). Fits (Some (replay outline dicts)) r) (sym e) (fits-clean (Some (replay outline dicts)) _)) is
 fits inputs (Some (audit workers dicts)) result is =
     fits-over (Some (audit workers dicts)) search_limit IsAudit dicts inputs.dictionaries result input-search
-    (λ s r e. subst (λ (r : Expected). Fits (Some (audit workers dicts)) r) (sym e.produces) (fits-audit workers dicts _ e.rows)) is
+    (λ s r e. fits-conflicts (Some (audit workers dicts)) whole_report s r refl e) is
 fits inputs (Some (generate start count)) result is = subst (λ (r : Expected). Fits (Some (generate start count)) r) (sym is) (fits-clean (Some (generate start count)) _)
+fits inputs (Some (audit_generated start count workers)) result is =
+    let stack : StackView = generated_stack start count in
+    fits-unless (Some (audit_generated start count workers)) (entries_limit stack) (IsSummary stack) result (input-entries stack)
+    (λ r e. fits-conflicts (Some (audit_generated start count workers)) counts_alone stack r refl e) is
 
 -- ---- for the headline
 

@@ -8,3 +8,4 @@ pub mod Ends
 pub mod Headlines
 pub mod Reports
 pub mod Unique
+pub mod GeneratedStacks

@@ -1,6 +1,7 @@
 -- What the commands print, and the limits of their stacks.
 use Rattle.report.specs.declared.reports.Summary.{Summary}
-use Rattle.report.specs.Reports.{report_text}
+use Rattle.outside.specs.Sink.{Puts}
+use Rattle.outside.specs.declared.fault.OutsideFault.{OutsideFault}
 use Rattle.conflict_example.specs.Chosen.{AreChosen, words_in_stack}
 use Rattle.round_core.specs.Searches.{IsSearched, SettledView}
 use Rattle.state_numbering.specs.declared.fault.NumberFault.TheVariants as numbers
@@ -33,7 +34,7 @@ use Rattle.outline_trie.specs.Causes.{IsTrieCause}
 use Rattle.outline_trie.specs.declared.trie.TrieFault.{TrieFault}
 use Rattle.outline_trie.specs.declared.trie.TrieFault.TheVariants as trie
 use Rattle.outline_trie.specs.declared.trie.TheConstants.Trie.{MAX_NODES}
-use Rattle.audit_top.specs.Expected.{Expected, IsReplay, UnlessRefused, prints, trie_limit, IsAudit, reached_count, search_limit, summary_by, summary_of}
+use Rattle.audit_top.specs.Expected.{Expected, IsReplay, PrintsConflicts, UnlessRefused, prints, trie_limit, reached_count, search_limit, summary_by, summary_of}
 use Rattle.audit_top.specs.Statuses.{audit_status}
 use Rattle.audit_top.specs.Runs.{OutputView}
 use Rattle.audit_top.specs.inside.Answers.{Answers}
@@ -51,16 +52,16 @@ replay-is stack outline strokes found read is =
     ∙ ap (prints Clean) (pieces_text-segments stack strokes)
     ∙ ap (λ o. prints Clean (replay_text stack (unwrap_or o []))) (sym read)
 
--- the report of the conflicts that were found is an expected one
-pub audit-is : (stack : StackView) (searched : SettledView) (rows : List Row) (summary : Summary) → AreConflicts stack.outlines (words_in_stack stack) rows → AreChosen stack.outlines (words_in_stack stack) searched.words rows
-    → IsSearched 0 (kept_lists stack.outlines (words_in_stack stack)) searched → summary ≡ summary_of searched rows → IsAudit stack (prints (audit_status rows) (report_text stack summary rows))
-audit-is stack searched rows summary exact chosen search is = record {
+-- what is printed of the conflicts that were found is an expected text
+pub conflicts-are : (text : StackView → SettledView → List Row → List ℕ) (stack : StackView) (searched : SettledView) (rows : List Row) → AreConflicts stack.outlines (words_in_stack stack) rows → AreChosen stack.outlines (words_in_stack stack) searched.words rows
+    → IsSearched 0 (kept_lists stack.outlines (words_in_stack stack)) searched → PrintsConflicts text stack (prints (audit_status rows) (text stack searched rows))
+conflicts-are text stack searched rows exact chosen search = record {
   rows = rows;
   searched = searched;
   exact = exact;
   chosen = chosen;
   search = search;
-  produces = ap (λ (s : Summary). prints (audit_status rows) (report_text stack s rows)) is;
+  produces = refl;
 }
 
 -- the strokes of a readable outline weren't read, so memory ran out
@@ -112,6 +113,10 @@ pub summary-is : (searched : SettledView) (rows : List Row) (states rounds confl
     → summary_by states rounds conflicts ≡ summary_of searched rows
 summary-is searched rows states rounds conflicts words are reached in_rounds counted = rw (counted, in_rounds, reached, are) refl
 
+-- what was put is a text of the expected summary
+pub put-counts : {T : Type 0} (text : Summary → List ℕ) (result : Result T OutsideFault) (old new : Option (List ℕ)) (faults later : ℕ) (made expected : Summary) → made ≡ expected → Puts (text made) result old new faults later → Puts (text expected) result old new faults later
+put-counts text result old new faults later made expected is puts = subst (λ (s : Summary). Puts (text s) result old new faults later) is puts
+
 -- the closure graph of the numbering is that of the stack
 pub of-graph : (stack : StackView) (graph numbering : NumberingView) (s : SettledView) → graph ≡ numbering → numbering.entries ≡ stack.outlines → numbering.words ≡ words_in_stack stack
     → IsSearched 0 (kept_lists graph.entries graph.words) s → IsSearched 0 (kept_lists stack.outlines (words_in_stack stack)) s
@@ -121,11 +126,11 @@ of-graph stack graph numbering s same entries words searched =
     (subst (λ (g : NumberingView). IsSearched 0 (kept_lists g.entries g.words) s) same searched))
 
 -- there are too many states, or memory ran out
-pub numbers-stopped : (stack : StackView) (out : OutputView) (answer : Result Status Refusal) (refusal : Refusal) (fault : NumberFault) (entries : List (List ℕ))
+pub numbers-stopped : (May : Expected → Type 0) (stack : StackView) (out : OutputView) (answer : Result Status Refusal) (refusal : Refusal) (fault : NumberFault) (entries : List (List ℕ))
     → entries ≡ stack.outlines → length (nodes stack.outlines) ≤ MAX_NODES → IsNumberCause (number_count entries) fault → answer ≡ Err refusal → refusal ≡ refusal_of_numbers fault
-    → Answers (UnlessRefused (search_limit stack) (IsAudit stack)) out out answer
-numbers-stopped stack out answer refusal (numbers.TooManyStates count) entries are within cause is by =
+    → Answers (UnlessRefused (search_limit stack) May) out out answer
+numbers-stopped May stack out answer refusal (numbers.TooManyStates count) entries are within cause is by =
     let cause' = subst (λ es. IsNumberCause (number_count es) (numbers.TooManyStates count)) are cause in
-    refused-first (UnlessRefused (search_limit stack) (IsAudit stack)) out answer refusal (too_many_states count) is (ap stop_of by)
-    (unless-some (search_limit stack) (IsAudit stack) (too_many_states count) (search-over_states stack count within cause'.0 cause'.1))
-numbers-stopped stack out answer refusal numbers.Memory entries are within cause is by = ran-out (UnlessRefused (search_limit stack) (IsAudit stack)) out answer refusal is by
+    refused-first (UnlessRefused (search_limit stack) May) out answer refusal (too_many_states count) is (ap stop_of by)
+    (unless-some (search_limit stack) May (too_many_states count) (search-over_states stack count within cause'.0 cause'.1))
+numbers-stopped May stack out answer refusal numbers.Memory entries are within cause is by = ran-out (UnlessRefused (search_limit stack) May) out answer refusal is by

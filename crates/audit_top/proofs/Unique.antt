@@ -1,5 +1,4 @@
 -- Of what a run is expected to produce there is at most one.
-use Rattle.report.specs.Reports.{report_text}
 use Rattle.conflict_example.specs.Chosen.{AreChosen, IsChosenRow, words_in_stack}
 use Rattle.round_core.proofs.OneSearch.{search_once}
 use Rattle.round_core.specs.Searches.{SettledView}
@@ -18,8 +17,8 @@ use Rattle.dict_stack.specs.Stacks.{StackView}
 use Rattle.dict_files.specs.Refusals.{dictionaries_refusal, first_of, stack_from}
 use Rattle.report.specs.Refusals.{RefusalView, not_words}
 use Rattle.report.specs.Replays.{replay_text}
-use Rattle.audit_top.specs.Commands.{CommandView, generate, replay, audit, searches}
-use Rattle.audit_top.specs.Expected.{Expected, Inputs, IsExpected, IsReplay, OverStack, UnlessRefused, prints, refused, trie_limit, IsAudit, search_limit, summary_of}
+use Rattle.audit_top.specs.Commands.{CommandView, generate, replay, audit, audit_generated, searches}
+use Rattle.audit_top.specs.Expected.{Expected, Inputs, IsExpected, IsReplay, OverStack, UnlessRefused, prints, refused, trie_limit, IsAudit, IsSummary, PrintsConflicts, counts_alone, entries_limit, generated_stack, search_limit, whole_report}
 use Rattle.audit_top.specs.Statuses.{audit_status}
 use Rattle.audit_top.specs.declared.status.Status.TheVariants.{Clean}
 
@@ -116,13 +115,13 @@ rows_once entries words table xs ys cx cy hx hy =
 
 -- ---- results
 
-audit_once : (stack : StackView) (a b : Expected) → IsAudit stack a → IsAudit stack b → a ≡ b
-audit_once stack a b ha hb =
+prints_once : (text : StackView → SettledView → List Row → List ℕ) (stack : StackView) (a b : Expected) → PrintsConflicts text stack a → PrintsConflicts text stack b → a ≡ b
+prints_once text stack a b ha hb =
     let searched : ha.searched ≡ hb.searched = search_once 0 (kept_lists stack.outlines (words_in_stack stack)) ha.searched hb.searched ha.search hb.search in
     let chosen = subst (λ (s : SettledView). AreChosen stack.outlines (words_in_stack stack) s.words hb.rows) (sym searched) hb.chosen in
     let rows : ha.rows ≡ hb.rows = rows_once stack.outlines (words_in_stack stack) ha.searched.words ha.rows hb.rows ha.exact hb.exact ha.chosen chosen in
     ha.produces
-    ∙ ap₂ (λ (rows : List Row) (s : SettledView). prints (audit_status rows) (report_text stack (summary_of s rows) rows)) rows searched
+    ∙ ap₂ (λ (rows : List Row) (s : SettledView). prints (audit_status rows) (text stack s rows)) rows searched
     ∙ sym hb.produces
 
 unless_once : (o : Option RefusalView) (Follows : Expected → Type 0) (a b : Expected) → ((a b : Expected) → Follows a → Follows b → a ≡ b) → UnlessRefused o Follows a → UnlessRefused o Follows b → a ≡ b
@@ -137,8 +136,11 @@ over_once limit Follows dicts contents a b once ha hb =
 pub expected-once : (inputs : Inputs) (command : Option CommandView) (a b : Expected) → IsExpected inputs command a → IsExpected inputs command b → a ≡ b
 expected-once inputs None a b ha hb = ha ∙ sym hb
 expected-once inputs (Some (replay outline dicts)) a b ha hb = over_once trie_limit (IsReplay outline) dicts inputs.dictionaries a b (λ s a b x y. x ∙ sym y) ha hb
-expected-once inputs (Some (audit workers dicts)) a b ha hb = over_once search_limit IsAudit dicts inputs.dictionaries a b audit_once ha hb
+expected-once inputs (Some (audit workers dicts)) a b ha hb = over_once search_limit IsAudit dicts inputs.dictionaries a b (prints_once whole_report) ha hb
 expected-once inputs (Some (generate start count)) a b ha hb = ha ∙ sym hb
+expected-once inputs (Some (audit_generated start count workers)) a b ha hb =
+    let stack : StackView = generated_stack start count in
+    unless_once (entries_limit stack) (IsSummary stack) a b (prints_once counts_alone stack) ha hb
 
 -- ---- and of a command that searches nothing there is one
 
@@ -152,4 +154,5 @@ expected-some inputs (Some (replay outline dicts)) plain =
     let stack : StackView = stack_from dicts inputs.dictionaries in
     unless_some (first_of (dictionaries_refusal dicts inputs.dictionaries) (trie_limit stack)) (IsReplay outline stack) (prints Clean (replay_text stack (unwrap_or (spelt_strokes outline) []))) refl
 expected-some inputs (Some (audit workers dicts)) plain = absurd (true≢false plain)
+expected-some inputs (Some (audit_generated start count workers)) plain = absurd (true≢false plain)
 expected-some inputs (Some (generate start count)) plain = (prints Clean (generated_text start count), refl)

@@ -1,6 +1,6 @@
 -- What is known of a command that arguments were read as.
 use Rattle.std.proofs.Common.{zero, suc, ◌≡◌, ◌<◌, ◌^◌, IfSome, option_map, sym, List, [], ◌∷◌, length, All, subst, arith, Option, Some, None, map, String, string_bytes, string_len, Global, ap, ◌∙◌, false}
-use Rattle.audit_top.specs.Commands.{CommandView, arguments_of, command_of, command_view, generate, replay, audit, searches}
+use Rattle.audit_top.specs.Commands.{CommandView, arguments_of, command_of, command_view, generate, replay, audit, audit_generated, searches}
 use Rattle.audit_top.specs.inside.Written.{ForOutline, IsWritten}
 use Rattle.audit_top.specs.declared.commands.Command.{Command}
 use Rattle.audit_top.proofs.CommandLaw.{command-written}
@@ -10,6 +10,7 @@ outline_short : (c : CommandView) → All (λ arg. length arg < 2 ^ 32) (argumen
 outline_short (replay outline dicts) short = short 1 [] (omega arith)
 outline_short (audit workers dicts) short = tt
 outline_short (generate start count) short = tt
+outline_short (audit_generated start count workers) short = tt
 
 -- the arguments of the program, as lists of bytes
 args_short : (args : List (String Global)) → All (λ arg. string_len arg < 2 ^ 32) args → All (λ arg. length arg < 2 ^ 32) (map string_bytes args)

@@ -1,27 +1,28 @@
 -- What a run is expected to produce: the status with which it ends, the text that it adds to the output, and the file that it writes.
 --     IsExpected inputs command result     this is expected of a run of the command on these inputs
 --     OverStack limit Follows              the refusals of dictionaries in their order, and what follows where there is none
---     IsAudit stack result                 what is expected of an audit
--- A new command adds its line to `IsExpected`, and what it promises as a function or a record beside `IsAudit`.
-use Rattle.std.specs.Prelude.{ℕ, ◌≡◌, List, [], not, nat_eq, length, filter, Option, Some, None, unwrap_or}
+--     IsAudit stack result                 what is expected of an audit of dictionaries
+--     IsSummary stack result               what is expected of an audit of a generated dictionary
+-- A new command adds its line to `IsExpected`, and what it promises as a function or a record beside these.
+use Rattle.std.specs.Prelude.{ℕ, ◌≡◌, List, [], ◌∷◌, true, not, nat_eq, length, filter, Option, Some, None, unwrap_or}
 use Rattle.graph_rules.specs.Graphs.{unreached}
 use Rattle.steno_rules.specs.Nodes.{nodes}
 use Rattle.steno_rules.specs.StateNumbers.{number_count}
 use Rattle.steno_rules.specs.ClosureGraphs.{kept_lists}
 use Rattle.steno_order.specs.Reading.{spelt_strokes}
 use Rattle.dict_json.specs.Generated.{generated_text}
-use Rattle.dict_stack.specs.Stacks.{StackView}
-use Rattle.dict_files.specs.Refusals.{dictionaries_refusal, first_of, if_over, stack_from}
+use Rattle.dict_stack.specs.Stacks.{StackView, most_entries, stack_of}
+use Rattle.dict_files.specs.Refusals.{dictionaries_of, dictionaries_refusal, first_of, if_over, stack_from}
 use Rattle.longest_match.specs.Rows.{Row, AreConflicts}
 use Rattle.state_numbering.specs.Causes.{most_states}
 use Rattle.round_core.specs.Searches.{IsSearched, SettledView}
 use Rattle.conflict_example.specs.Chosen.{AreChosen, words_in_stack}
 use Rattle.outline_trie.specs.declared.trie.TheConstants.Trie.{MAX_NODES}
-use Rattle.report.specs.Refusals.{RefusalView, refusal_text, not_words, too_many_nodes, too_many_states}
+use Rattle.report.specs.Refusals.{RefusalView, refusal_text, not_words, too_many_entries, too_many_nodes, too_many_states}
 use Rattle.report.specs.Replays.{replay_text}
-use Rattle.report.specs.Reports.{report_text}
+use Rattle.report.specs.Reports.{report_text, summary_text}
 use Rattle.report.specs.declared.reports.Summary.{Summary}
-use Rattle.audit_top.specs.Commands.{CommandView, replay, audit, generate}
+use Rattle.audit_top.specs.Commands.{CommandView, replay, audit, generate, audit_generated}
 use Rattle.audit_top.specs.Statuses.{audit_status, refusal_status}
 use Rattle.audit_top.specs.declared.status.Status.{Status}
 use Rattle.audit_top.specs.declared.status.Status.TheVariants.{Clean}
@@ -72,6 +73,15 @@ abbrev pub search_limit : StackView → Option RefusalView
 search_limit stack =
     first_of (trie_limit stack) (if_over most_states too_many_states (number_count stack.outlines))
 
+-- the stack of the one dictionary that the generator makes, which supplies words
+abbrev pub generated_stack : ℕ → ℕ → StackView
+generated_stack start count = stack_of (dictionaries_of (generated_text start count ∷ [])) (true ∷ [])
+
+-- the limits of an audit of that dictionary, whose bytes are never refused
+abbrev pub entries_limit : StackView → Option RefusalView
+entries_limit stack =
+    first_of (if_over most_entries too_many_entries (length stack.outlines)) (search_limit stack)
+
 -- ---- what follows
 
 abbrev pub IsReplay : List ℕ → StackView → Expected → Type 0
@@ -94,15 +104,35 @@ abbrev pub summary_of : SettledView → List Row → Summary
 summary_of searched rows =
     summary_by (reached_count searched.words) searched.rounds (length rows)
 
--- the report of exactly the conflicts, each with its chosen shortest example, and the counts of the search
-pub record IsAudit (stack : StackView) (result : Expected) : Type 0 where
+-- the rows are exactly the conflicts, each with its chosen shortest example; this text is printed of them and of the search
+pub record PrintsConflicts (text : StackView → SettledView → List Row → List ℕ) (stack : StackView)
+    (result : Expected) : Type 0 where
   pub rows : List Row
   pub searched : SettledView
   pub exact : AreConflicts stack.outlines (words_in_stack stack) rows
   pub chosen : AreChosen stack.outlines (words_in_stack stack) searched.words rows
   pub search : IsSearched 0 (kept_lists stack.outlines (words_in_stack stack)) searched
-  pub produces : result
-      ≡ prints (audit_status rows) (report_text stack (summary_of searched rows) rows)
+  pub produces : result ≡ prints (audit_status rows) (text stack searched rows)
+
+-- the report, and the counts of the search
+abbrev pub whole_report : StackView → SettledView → List Row → List ℕ
+whole_report stack searched rows = report_text stack (summary_of searched rows) rows
+
+-- the counts alone, with how many moves the search made
+abbrev pub counts_alone : StackView → SettledView → List Row → List ℕ
+counts_alone stack searched rows = summary_text stack (summary_of searched rows) searched.relaxed
+
+abbrev pub IsAudit : StackView → Expected → Type 0
+IsAudit stack result = PrintsConflicts whole_report stack result
+
+abbrev pub IsSummary : StackView → Expected → Type 0
+IsSummary stack result = PrintsConflicts counts_alone stack result
+
+-- the limits of the generated dictionary's stack, or the counts
+abbrev pub IsAuditGenerated : ℕ → ℕ → Expected → Type 0
+IsAuditGenerated start count result =
+    let stack = generated_stack start count in
+    UnlessRefused (entries_limit stack) (IsSummary stack) result
 
 -- ---- each command
 
@@ -113,3 +143,5 @@ IsExpected inputs (Some (replay outline dicts)) result =
 IsExpected inputs (Some (audit workers dicts)) result =
     OverStack search_limit IsAudit dicts inputs.dictionaries result
 IsExpected inputs (Some (generate start count)) result = IsGenerated start count result
+IsExpected inputs (Some (audit_generated start count workers)) result =
+    IsAuditGenerated start count result

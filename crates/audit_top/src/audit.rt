@@ -1,4 +1,6 @@
 //! `audit`: all conflicts of some dictionaries, each with a shortest sequence of words that shows it.
+//!
+//! The search and the conflicts are those of every audit; a [`Form`] says what is printed of them.
 
 ghost use Rattle.std.specs.Prelude.{◌≡◌, ◌≤◌, ◌<◌, ◌^◌, Some, length, map, string_bytes};
 ghost use Rattle.steno_rules.specs.ClosureGraphs.{kept_lists};
@@ -9,7 +11,9 @@ ghost use Rattle.round_core.specs.Searches.{IsSearched};
 ghost use Rattle.conflict_example.specs.Chosen.{AreChosen, words_in_stack};
 ghost use Rattle.audit_top.specs.inside.Answers.{Answers, IsAnswer};
 ghost use Rattle.audit_top.specs.Commands.{audit as audit_of};
-ghost use Rattle.audit_top.specs.Expected.{IsAudit, UnlessRefused, reached_count, search_limit};
+ghost use Rattle.outside.specs.Sink.{Puts};
+ghost use Rattle.audit_top.specs.inside.Forms.{text_in};
+ghost use Rattle.audit_top.specs.Expected.{PrintsConflicts, UnlessRefused, reached_count, search_limit};
 ghost use Rattle.audit_top.specs.Statuses.{audit_status};
 ghost use Rattle.audit_top.specs.Runs.{output, world};
 ghost use Rattle.steal_rounds.specs.declared.searches.TheConstants.{MAX_WORKERS};
@@ -23,8 +27,8 @@ use dict_stack::Stack;
 use longest_match::Conflict;
 use match_window::Windows;
 use outline_trie::Trie;
-use outside::{Files, Sink};
-use report::{Summary, write_report};
+use outside::{Files, OutsideFault, Sink};
+use report::{Summary, write_report, write_summary};
 use round_core::Settled;
 use state_numbering::{ClosureGraph, Numbering};
 use std::alloc::Global;
@@ -32,6 +36,15 @@ use std::marker::{Send, Sync};
 use std::sync::Wait;
 use std::thread::Threads;
 use steal_rounds::{Gate, search};
+
+/// What is printed of an audit.
+#[derive(Clone, Copy, Debug)]
+pub(crate) enum Form {
+    /// The report: the counts and each conflict.
+    Report,
+    /// The counts alone, with how many moves the search made.
+    Summary,
+}
 
 /// How many numbers have a word of the search.
 fn reached(words: &[u64]) -> u32
@@ -51,12 +64,39 @@ fn status_of(rows: &[Conflict]) -> Status
     }
 }
 
-/// Writes the report of an audit whose conflicts were found.
-fn report_conflicts<S: Sink>(
+/// Writes what is printed of these conflicts.
+fn write_found<S: Sink>(
     alloc: Global,
     stack: &Stack,
     searched: &Settled,
     rows: &[Conflict],
+    form: Form,
+    out: &mut S,
+) -> Result<(), OutsideFault>
+    requires few { length searched.now.words < 2 ^ 32 }
+    requires rows { length rows.now < 2 ^ 32 }
+    requires small { AreSmall stack.now.outlines rows.now }
+    ensures { let text = text_in form stack.now searched.now rows.now in
+        Puts text result (S.text out.old) (S.text out.new) (S.faults out.old) (S.faults out.new) }
+{
+    let summary = Summary {
+        states: reached(searched.words()),
+        rounds: searched.rounds(),
+        conflicts: rows.len() as u32,
+    };
+    match form {
+        Form::Report => write_report(alloc, out, stack, &summary, rows),
+        Form::Summary => write_summary(alloc, out, stack, &summary, searched.relaxed()),
+    }
+}
+
+/// Ends an audit whose conflicts were found.
+fn print_conflicts<S: Sink>(
+    alloc: Global,
+    stack: &Stack,
+    searched: &Settled,
+    rows: &[Conflict],
+    form: Form,
     out: &mut S,
 ) -> Result<Status, Refusal>
     requires few { length searched.now.words < 2 ^ 32 }
@@ -68,14 +108,9 @@ fn report_conflicts<S: Sink>(
         (kept_lists stack.now.outlines (words_in_stack stack.now)) searched.now }
     ensures { let before = output (S.text out.old) (S.faults out.old) in
         let after = output (S.text out.new) (S.faults out.new) in
-        Answers (IsAudit stack.now) before after result }
+        Answers (PrintsConflicts (text_in form) stack.now) before after result }
 {
-    let summary = Summary {
-        states: reached(searched.words()),
-        rounds: searched.rounds(),
-        conflicts: rows.len() as u32,
-    };
-    write_report(alloc, out, stack, &summary, rows)?;
+    write_found(alloc, stack, searched, rows, form, out)?;
     Ok(status_of(rows))
 }
 
@@ -86,6 +121,7 @@ fn audit_numbered<R: Threads + Wait + Sync, S: Sink, K: Gate + Sync>(
     workers: u32,
     stack: &Stack,
     numbering: &Numbering<'_>,
+    form: Form,
     out: &mut S,
     gate: &K,
 ) -> Result<Status, Refusal>
@@ -96,20 +132,21 @@ fn audit_numbered<R: Threads + Wait + Sync, S: Sink, K: Gate + Sync>(
     requires within { number_count stack.now.outlines ≤ most_states }
     ensures { let before = output (S.text out.old) (S.faults out.old) in
         let after = output (S.text out.new) (S.faults out.new) in
-        Answers (IsAudit stack.now) before after result }
+        Answers (PrintsConflicts (text_in form) stack.now) before after result }
 {
     let graph = ClosureGraph::new(numbering);
     let searched = search(rt, alloc, &graph, workers, gate)?;
     let rows = conflicts(alloc, numbering, stack, searched.words())?;
-    report_conflicts(alloc, stack, &searched, &rows, out)
+    print_conflicts(alloc, stack, &searched, &rows, form, out)
 }
 
 /// An audit whose dictionaries were read.
-fn audit_stack<R: Threads + Wait + Sync, S: Sink, K: Gate + Sync>(
+pub(crate) fn audit_stack<R: Threads + Wait + Sync, S: Sink, K: Gate + Sync>(
     rt: &R,
     alloc: Global,
     workers: u32,
     stack: &Stack,
+    form: Form,
     out: &mut S,
     gate: &K,
 ) -> Result<Status, Refusal>
@@ -117,13 +154,14 @@ fn audit_stack<R: Threads + Wait + Sync, S: Sink, K: Gate + Sync>(
     requires few { workers ≤ MAX_WORKERS }
     ensures { let before = output (S.text out.old) (S.faults out.old) in
         let after = output (S.text out.new) (S.faults out.new) in
-        Answers (UnlessRefused (search_limit stack.now) (IsAudit stack.now)) before after result }
+        let limit = search_limit stack.now in
+        Answers (UnlessRefused limit (PrintsConflicts (text_in form) stack.now)) before after result }
 {
     let trie = Trie::new(alloc, stack.outlines())?;
     let windows = Windows::new(alloc, &trie)?;
     let words = WordSet::new(alloc, &trie, stack.words())?;
     let numbering = Numbering::new(alloc, &trie, &windows, &words)?;
-    audit_numbered(rt, alloc, workers, stack, &numbering, out, gate)
+    audit_numbered(rt, alloc, workers, stack, &numbering, form, out, gate)
 }
 
 /// The audit of the dictionaries that the arguments name.
@@ -143,5 +181,5 @@ pub(crate) fn audit<R: Threads + Wait + Sync, F: Files, S: Sink, K: Gate + Sync>
         IsAnswer (Some (audit_of workers (map string_bytes dicts.now))) before after result }
 {
     let stack = read_stack(alloc, files, dicts)?;
-    audit_stack(rt, alloc, workers, &stack, out, gate)
+    audit_stack(rt, alloc, workers, &stack, Form::Report, out, gate)
 }

@@ -9,6 +9,7 @@
 #![tactic(auto)]
 
 mod audit;
+mod audit_generated;
 mod commands;
 mod generate;
 mod laws;
@@ -24,6 +25,3 @@ pub use laws::{command_arguments, expected_results};
 pub use program::run_program;
 pub use status::Status;
 pub use top::{run, run_plain};
-
-#[cfg(test)]
-mod tests;

@@ -4,11 +4,12 @@ ghost use Rattle.std.specs.Prelude.{◌≡◌};
 ghost use Rattle.report.specs.Refusals.{refusal_of};
 ghost use Rattle.audit_top.specs.Runs.{output};
 ghost use Rattle.audit_top.specs.Statuses.{refusal_status};
-ghost use Rattle.audit_top.specs.inside.Stops.{refusal_of_load, refusal_of_numbers, refusal_of_report, refusal_of_strokes, refusal_of_trie, stop_of};
+ghost use Rattle.audit_top.specs.inside.Stops.{refusal_of_load, refusal_of_numbers, refusal_of_report, refusal_of_stack, refusal_of_strokes, refusal_of_trie, stop_of};
 ghost use Rattle.audit_top.specs.inside.Endings.{EndsLine, EndsMemory, EndsStop, Finishes};
 
 use crate::status::Status;
 use dict_files::LoadFault;
+use dict_stack::StackFault;
 use outline_trie::TrieFault;
 use outside::{OutsideFault, Sink};
 use report::{FaultLine, write_fault, write_memory};
@@ -36,6 +37,20 @@ impl From<LoadFault> for Refusal {
         match fault {
             LoadFault::Memory => Refusal::Memory,
             fault => Refusal::Dictionaries(fault),
+        }
+    }
+}
+
+/// Of a stack whose dictionaries come from no file.
+impl From<StackFault> for Refusal {
+    ghost from_gives = { λ fault refusal. refusal ≡ refusal_of_stack fault };
+
+    fn from(fault: StackFault) -> Refusal {
+        match fault {
+            StackFault::TooManyEntries { count } => {
+                Refusal::Dictionaries(LoadFault::Entries { count })
+            }
+            StackFault::Memory => Refusal::Memory,
         }
     }
 }

@@ -8,6 +8,7 @@ ghost use Rattle.audit_top.specs.inside.Answers.{IsAnswer};
 ghost use Rattle.audit_top.specs.inside.Written.{IsWritten};
 
 use crate::audit::audit;
+use crate::audit_generated::audit_generated;
 use crate::commands::{Command, read_words};
 use crate::generate::generate;
 use crate::refusals::{Refusal, finish};
@@ -39,7 +40,7 @@ fn answer_plain<F: Files, S: Sink>(
             files: dicts,
         } => replay(alloc, outline, dicts, files, out),
         Command::Generate { start, count } => generate(alloc, start, count, out),
-        Command::Audit { .. } => unreachable!(),
+        Command::Audit { .. } | Command::AuditGenerated { .. } => unreachable!(),
     }
 }
 
@@ -62,6 +63,11 @@ fn answer_command<R: Threads + Wait + Sync, F: Files, S: Sink, K: Gate + Sync>(
             workers,
             files: dicts,
         } => { audit(rt, alloc, workers, dicts, files, out, gate) }
+        Command::AuditGenerated {
+            start,
+            count,
+            workers,
+        } => { audit_generated(rt, alloc, workers, start, count, out, gate) }
         Command::Replay { .. } | Command::Generate { .. } => {
             answer_plain(alloc, command, files, out)
         }

@@ -7,7 +7,7 @@ use Rattle.outside.specs.Faults.{Rose}
 use Rattle.outside.specs.Files.{LeavesFiles}
 use Rattle.dict_stack.specs.Stacks.{most_dictionaries}
 use Rattle.report.specs.Refusals.{RefusalView, refusal_text}
-use Rattle.audit_top.specs.Commands.{CommandView, audit, generate, reads_files, replay, writes}
+use Rattle.audit_top.specs.Commands.{CommandView, audit, audit_generated, generate, reads_files, replay, writes}
 use Rattle.audit_top.specs.Statuses.{refusal_status}
 use Rattle.audit_top.specs.Expected.{Expected, Inputs, Written, refused}
 use Rattle.audit_top.specs.Runs.{AreInputs, EndsWhole, FailsNamed, IsBegun, IsFilePart, MayProduce, OpensNamed, OutputView, World, Writes}
@@ -79,6 +79,7 @@ needs_memory None = false
 needs_memory (Some (replay outline dicts)) = nat_le (length dicts) most_dictionaries
 needs_memory (Some (audit workers dicts)) = nat_le (length dicts) most_dictionaries
 needs_memory (Some (generate start count)) = true
+needs_memory (Some (audit_generated start count workers)) = true
 
 -- memory ran out where it was needed, and no file failed
 pub record RanOut (command : Option CommandView) (before after : World) : Type 0 where

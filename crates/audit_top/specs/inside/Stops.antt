@@ -5,6 +5,8 @@ use Rattle.outside.specs.declared.fault.OutsideFault.TheVariants as report
 use Rattle.dict_files.specs.Loading.{load_refusal}
 use Rattle.dict_files.specs.declared.faults.LoadFault.{LoadFault}
 use Rattle.dict_files.specs.declared.faults.LoadFault.TheVariants as load
+use Rattle.dict_stack.specs.declared.faults.StackFault.{StackFault}
+use Rattle.dict_stack.specs.declared.faults.StackFault.TheVariants as stack
 use Rattle.steno_order.specs.declared.faults.StrokesFault.{StrokesFault}
 use Rattle.steno_order.specs.declared.faults.StrokesFault.TheVariants as strokes
 use Rattle.outline_trie.specs.declared.trie.TrieFault.{TrieFault}
@@ -33,6 +35,10 @@ stop_of of.Memory = by_memory
 abbrev pub refusal_of_load : LoadFault → Refusal
 refusal_of_load load.Memory = of.Memory
 refusal_of_load fault = of.Dictionaries fault
+
+abbrev pub refusal_of_stack : StackFault → Refusal
+refusal_of_stack (stack.TooManyEntries count) = of.Dictionaries (load.Entries count)
+refusal_of_stack stack.Memory = of.Memory
 
 abbrev pub refusal_of_strokes : StrokesFault → Refusal
 refusal_of_strokes (strokes.Unreadable part) = of.Arguments

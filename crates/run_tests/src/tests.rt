@@ -6,7 +6,7 @@
 ghost use Rattle.std.specs.Prelude.{◌≡◌, ◌<◌, ◌^◌, All, IsTrue, false, map, string_bytes, string_len};
 ghost use Rattle.audit_top.specs.Commands.{command_of, searches};
 
-use crate::{Command, Status, read_words, run, run_plain, run_program};
+use audit_top::{Command, Status, read_words, run, run_plain, run_program};
 use outside::{Files, MemFiles, MemSink, PlainFiles, PlainSink, Sink};
 use std::alloc::{AllocError, Global};
 use std::io;
@@ -47,7 +47,7 @@ fn are_plain(args: &[String]) -> bool
         None => true,
         Some(command) => match command {
             Command::Replay { .. } | Command::Generate { .. } => true,
-            Command::Audit { .. } => false,
+            Command::Audit { .. } | Command::AuditGenerated { .. } => false,
         },
     }
 }
@@ -112,6 +112,19 @@ fn check_row(
     Ok(())
 }
 
+/// Runs a row of audits with each of some numbers of workers.
+fn check_audit(
+    rt: &(impl Abort + Threads + Wait + Sync),
+    alloc: Global,
+    row: &str,
+) -> Result<(), AllocError> {
+    for workers in ["1", "2", "8", "32"] {
+        let row = format!(in alloc; "audit {workers} {row}")?;
+        check_row(rt, alloc, &row)?;
+    }
+    Ok(())
+}
+
 /// Runs each row of a table.
 fn check_rows(
     rt: &(impl Abort + Threads + Wait + Sync),
@@ -145,19 +158,24 @@ replay S d d d d d d d d d d d d d d d d|d={"S": "s"}|0|S "s"
 generate 7 0||0|{}
 generate 18446744073709551615 0||0|{}"#;
 
+const GENERATED: &str =
+    r#"audit-generated 7 2 1||0|entries 2;skipped 0;folded 0;strokes 5;states 8;rounds 4;conflicts 0;relaxed 7
+audit-generated 7 2 32||0|entries 2;skipped 0;folded 0;strokes 5;states 8;rounds 4;conflicts 0;relaxed 7
+audit-generated 7 0 1||0|entries 0;skipped 0;folded 0;strokes 0;states 1;rounds 1;conflicts 0;relaxed 0"#;
+
+/// Each row is run with 1, 2, 8 and 32 workers, so it has no command and no number of workers before its dictionaries.
 const AUDITS: &str =
-    r#"audit 1 d|d={}|0|entries 0;skipped 0;folded 0;strokes 0;states 1;rounds 1;conflicts 0
-audit 1 d|d={"UE": "x", "-": "y", "": "z", "S//T": "q", "KAT": "cat"}|0|entries 1;skipped 4;folded 0;strokes 1;states 3;rounds 2;conflicts 0;skipped-key 1 "";skipped-key 1 "-";skipped-key 1 "S//T";skipped-key 1 "UE"
-audit 2 d|d={"KAT": "cat", "TEL": "tell", "KAT/TEL": "cattle"}|1|entries 3;skipped 0;folded 0;strokes 2;states 9;rounds 3;conflicts 1;conflict KAT/TEL place 1 strokes 2;words KAT | TEL;shows "cattle"
-audit 32 d|d={"S/T": "a", "K/P": "b"}|0|entries 2;skipped 0;folded 0;strokes 4;states 7;rounds 3;conflicts 0
-audit 1 d|d={"S": "is", "S/T": "ist", "T/K/P": "tkp", "W": "we", "P/W": "pw"}|1|entries 5;skipped 0;folded 0;strokes 5;states 21;rounds 6;conflicts 1;conflict P/W place 1 strokes 5;words S | T/K/P | W;shows "ist" | K | "pw"
-audit 8 d|d={"S": "is", "S/T": "ist", "T/K/P": "tkp", "W": "we", "P/W": "pw"}|1|entries 5;skipped 0;folded 0;strokes 5;states 21;rounds 6;conflicts 1;conflict P/W place 1 strokes 5;words S | T/K/P | W;shows "ist" | K | "pw"
-audit 1 d|d={"S": "s", "T": "t", "K": "k", "S/T/K": "stick"}|1|entries 4;skipped 0;folded 0;strokes 3;states 16;rounds 4;conflicts 2;conflict S/T/K place 1 strokes 3;words S | T | K;shows "stick";conflict S/T/K place 2 strokes 3;words S | T | K;shows "stick"
-audit 1 d|d={"S": "a", "S/S": "b"}|1|entries 2;skipped 0;folded 0;strokes 1;states 9;rounds 3;conflicts 1;conflict S/S place 1 strokes 2;words S | S;shows "b"
-audit 1 d|d={"-S": "a", "S-S": "b", "STS": "c", "ST-S": "d"}|0|entries 3;skipped 0;folded 1;strokes 3;states 7;rounds 2;conflicts 0
-audit 4 d|d={"KAT": "cat", "TEL": "tell", "KAT/TEL": "cattle", "TP-PL": "{.}", "-G": "{^ing}", "12": "12", "*": "=undo"}|1|entries 7;skipped 0;folded 0;strokes 6;states 17;rounds 3;conflicts 1;conflict KAT/TEL place 1 strokes 2;words KAT | TEL;shows "cattle"
-audit 1 w match:m|w={"KAT": "cat", "TEL": "tell"};m={"KAT/TEL": "cattle"}|1|entries 3;skipped 0;folded 0;strokes 2;states 8;rounds 3;conflicts 1;conflict KAT/TEL place 1 strokes 2;words KAT | TEL;shows "cattle"
-audit 1 match:d|d={"KAT": "cat", "TEL": "tell", "KAT/TEL": "cattle"}|0|entries 3;skipped 0;folded 0;strokes 2;states 1;rounds 1;conflicts 0"#;
+    r#"d|d={}|0|entries 0;skipped 0;folded 0;strokes 0;states 1;rounds 1;conflicts 0
+d|d={"UE": "x", "-": "y", "": "z", "S//T": "q", "KAT": "cat"}|0|entries 1;skipped 4;folded 0;strokes 1;states 3;rounds 2;conflicts 0;skipped-key 1 "";skipped-key 1 "-";skipped-key 1 "S//T";skipped-key 1 "UE"
+d|d={"KAT": "cat", "TEL": "tell", "KAT/TEL": "cattle"}|1|entries 3;skipped 0;folded 0;strokes 2;states 9;rounds 3;conflicts 1;conflict KAT/TEL place 1 strokes 2;words KAT | TEL;shows "cattle"
+d|d={"S/T": "a", "K/P": "b"}|0|entries 2;skipped 0;folded 0;strokes 4;states 7;rounds 3;conflicts 0
+d|d={"S": "is", "S/T": "ist", "T/K/P": "tkp", "W": "we", "P/W": "pw"}|1|entries 5;skipped 0;folded 0;strokes 5;states 21;rounds 6;conflicts 1;conflict P/W place 1 strokes 5;words S | T/K/P | W;shows "ist" | K | "pw"
+d|d={"S": "s", "T": "t", "K": "k", "S/T/K": "stick"}|1|entries 4;skipped 0;folded 0;strokes 3;states 16;rounds 4;conflicts 2;conflict S/T/K place 1 strokes 3;words S | T | K;shows "stick";conflict S/T/K place 2 strokes 3;words S | T | K;shows "stick"
+d|d={"S": "a", "S/S": "b"}|1|entries 2;skipped 0;folded 0;strokes 1;states 9;rounds 3;conflicts 1;conflict S/S place 1 strokes 2;words S | S;shows "b"
+d|d={"-S": "a", "S-S": "b", "STS": "c", "ST-S": "d"}|0|entries 3;skipped 0;folded 1;strokes 3;states 7;rounds 2;conflicts 0
+d|d={"KAT": "cat", "TEL": "tell", "KAT/TEL": "cattle", "TP-PL": "{.}", "-G": "{^ing}", "12": "12", "*": "=undo"}|1|entries 7;skipped 0;folded 0;strokes 6;states 17;rounds 3;conflicts 1;conflict KAT/TEL place 1 strokes 2;words KAT | TEL;shows "cattle"
+w match:m|w={"KAT": "cat", "TEL": "tell"};m={"KAT/TEL": "cattle"}|1|entries 3;skipped 0;folded 0;strokes 2;states 8;rounds 3;conflicts 1;conflict KAT/TEL place 1 strokes 2;words KAT | TEL;shows "cattle"
+match:d|d={"KAT": "cat", "TEL": "tell", "KAT/TEL": "cattle"}|0|entries 3;skipped 0;folded 0;strokes 2;states 1;rounds 1;conflicts 0"#;
 
 const REFUSALS: &str = r#"||2|refused words
 replay|d={}|2|refused words
@@ -181,6 +199,13 @@ generate 07 1||2|refused words
 generate 7 100001||2|refused words
 generate 18446744073709551616 0||2|refused words
 generate 7 +1||2|refused words
+audit-generated 7 2||2|refused words
+audit-generated 7 2 1 d|d={}|2|refused words
+audit-generated 7 2 0||2|refused words
+audit-generated 7 2 33||2|refused words
+audit-generated 7 2 01||2|refused words
+audit-generated 7 100001 1||2|refused words
+audit-generated 18446744073709551616 0 1||2|refused words
 replay S e|d={}|3|failed file 1
 replay S d match:e|d={}|3|failed file 2
 replay S match:match:d|d={}|3|failed file 1
@@ -204,7 +229,15 @@ fn replays(rt: HostRuntime) -> Result<(), AllocError> {
 
 #[test]
 fn audits(rt: HostRuntime) -> Result<(), AllocError> {
-    check_rows(&rt, rt.alloc(), AUDITS)
+    for row in AUDITS.lines() {
+        check_audit(&rt, rt.alloc(), row)?;
+    }
+    Ok(())
+}
+
+#[test]
+fn generated_audits(rt: HostRuntime) -> Result<(), AllocError> {
+    check_rows(&rt, rt.alloc(), GENERATED)
 }
 
 #[test]
@@ -215,6 +248,38 @@ fn refusals(rt: HostRuntime) -> Result<(), AllocError> {
 #[test]
 fn hostile_files(rt: HostRuntime) -> Result<(), AllocError> {
     check_rows(&rt, rt.alloc(), HOSTILE)
+}
+
+/// Runs a line that reads no file, and whose output is this text.
+fn check_text(
+    rt: &(impl Abort + Threads + Wait + Sync),
+    alloc: Global,
+    line: &str,
+    want: &[u8],
+) -> Result<(), AllocError> {
+    let mut files = MemFiles::new(alloc);
+    let mut out = MemSink::new(alloc);
+    run_line(rt, alloc, line, &mut files, &mut out)?;
+    assert!(rt; out.text() == want, "{line}");
+    Ok(())
+}
+
+/// Eight workers share a search of more than a few states in another way each time.
+#[test]
+fn the_same_summary_each_time(rt: HostRuntime) -> Result<(), AllocError> {
+    let mut files = MemFiles::new(rt.alloc());
+    let mut first = MemSink::new(rt.alloc());
+    run_line(
+        &rt,
+        rt.alloc(),
+        "audit-generated 7 2000 1",
+        &mut files,
+        &mut first,
+    )?;
+    for _ in 0..20 {
+        check_text(&rt, rt.alloc(), "audit-generated 7 2000 8", first.text())?;
+    }
+    Ok(())
 }
 
 /// Runs a replay over a file of these bytes, whose output is one line.
@@ -262,28 +327,40 @@ fn only(alloc: Global, call: u64) -> Result<Vec<u64>, AllocError> {
 
 const THREE: &str = r#"a={"KAT": "cat"};b={"KAT": "feline"};d={"S": "s"}"#;
 
-/// Three dictionaries, each opened, read and read to its end: a call of the files fails.
+/// Runs a line over files whose call of this number fails.
 fn check_failing_call(
     rt: &(impl Abort + Threads + Wait + Sync),
     alloc: Global,
+    line: &str,
     call: u64,
+    status: Status,
     want: &[u8],
 ) -> Result<(), AllocError> {
     let mut files = files_of(alloc, THREE)?;
     files.fail_at(only(alloc, call)?);
     let mut out = MemSink::new(alloc);
-    let found = run_line(rt, alloc, "replay S a match:b d", &mut files, &mut out)?;
-    assert_eq!(rt; found, Status::File, "at {call}");
+    let found = run_line(rt, alloc, line, &mut files, &mut out)?;
+    assert_eq!(rt; found, status, "at {call}");
     assert!(rt; out.text() == want, "at {call}");
     Ok(())
+}
+
+/// Three dictionaries, each opened, read and read to its end.
+fn check_failing_file(
+    rt: &(impl Abort + Threads + Wait + Sync),
+    alloc: Global,
+    call: u64,
+    want: &[u8],
+) -> Result<(), AllocError> {
+    check_failing_call(rt, alloc, "replay S a match:b d", call, Status::File, want)
 }
 
 #[test]
 fn each_call_of_the_files_fails(rt: HostRuntime) -> Result<(), AllocError> {
     for call in 0..3 {
-        check_failing_call(&rt, rt.alloc(), call, b"failed file 1\n")?;
-        check_failing_call(&rt, rt.alloc(), call + 3, b"failed file 2\n")?;
-        check_failing_call(&rt, rt.alloc(), call + 6, b"failed file 3\n")?;
+        check_failing_file(&rt, rt.alloc(), call, b"failed file 1\n")?;
+        check_failing_file(&rt, rt.alloc(), call + 3, b"failed file 2\n")?;
+        check_failing_file(&rt, rt.alloc(), call + 6, b"failed file 3\n")?;
     }
     Ok(())
 }
@@ -291,14 +368,9 @@ fn each_call_of_the_files_fails(rt: HostRuntime) -> Result<(), AllocError> {
 /// The first call of the files would fail, so this shows that there is none.
 #[test]
 fn seventeen_dictionaries_open_no_file(rt: HostRuntime) -> Result<(), AllocError> {
-    let mut files = files_of(rt.alloc(), THREE)?;
-    files.fail_at(only(rt.alloc(), 0)?);
-    let mut out = MemSink::new(rt.alloc());
     let line = "replay S d d d d d d d d d d d d d d d d d";
-    let found = run_line(&rt, rt.alloc(), line, &mut files, &mut out)?;
-    assert_eq!(rt; found, Status::Limit);
-    assert!(rt; out.text() == b"limit dictionaries 17\n".as_slice());
-    Ok(())
+    let want = b"limit dictionaries 17\n";
+    check_failing_call(&rt, rt.alloc(), line, 0, Status::Limit, want)
 }
 
 /// Runs a line over an output that fails at once.
@@ -321,6 +393,7 @@ fn the_output_fails(rt: HostRuntime) -> Result<(), AllocError> {
     check_failing_output(&rt, rt.alloc(), "replay S d")?;
     check_failing_output(&rt, rt.alloc(), "audit 2 d")?;
     check_failing_output(&rt, rt.alloc(), "generate 7 2")?;
+    check_failing_output(&rt, rt.alloc(), "audit-generated 7 2 2")?;
     check_failing_output(&rt, rt.alloc(), "replay S")?;
     check_failing_output(&rt, rt.alloc(), "replay S e")
 }
@@ -339,6 +412,13 @@ fn plain_objects_never_fail(rt: HostRuntime) -> Result<(), AllocError> {
     Ok(())
 }
 
+/// A key of 64 strokes (`~`) is read, and one of 65 (`^`) is refused after each value that is no text. A key with an unreadable
+/// part is skipped, however many parts it has.
+const LONG_KEYS: &str = r#"replay ~ d|d={"~": "x"}|0|~ "x"
+replay S d|d={"^": "x"}|5|limit outline file 1 "^" 65
+replay KAT d|d={"KAT": 1, "^": "x"}|4|refused file 1 not text "KAT"
+replay KAT d|d={"~/UE": "x"}|0|KAT untranslated"#;
+
 /// `S`, so many times with a slash between each two.
 fn repeated(alloc: Global, count: usize) -> Result<String, AllocError> {
     let mut all = String::from_str(alloc, "S")?;
@@ -349,40 +429,13 @@ fn repeated(alloc: Global, count: usize) -> Result<String, AllocError> {
 }
 
 #[test]
-fn the_longest_outline(rt: HostRuntime) -> Result<(), AllocError> {
+fn long_keys(rt: HostRuntime) -> Result<(), AllocError> {
     let alloc = rt.alloc();
     let longest = repeated(alloc, 64)?;
     let longer = repeated(alloc, 65)?;
-    let fits = format!(in alloc;
-        "replay {longest} d|d={{\"{longest}\": \"x\"}}|0|{longest} \"x\""
-    )?;
-    check_row(&rt, alloc, &fits)?;
-    let over = format!(in alloc;
-        "replay S d|d={{\"{longer}\": \"x\"}}|5|limit outline file 1 \"{longer}\" 65"
-    )?;
-    check_row(&rt, alloc, &over)
-}
-
-/// A value that is no text is refused before a key that is too long, whatever their order.
-#[test]
-fn a_bad_value_beside_a_long_key(rt: HostRuntime) -> Result<(), AllocError> {
-    let alloc = rt.alloc();
-    let longer = repeated(alloc, 65)?;
-    let row = format!(in alloc;
-        "replay KAT d.json|d.json={{\"KAT\": 1, \"{longer}\": \"x\"}}|4|refused file 1 not text \"KAT\""
-    )?;
-    check_row(&rt, alloc, &row)
-}
-
-/// A key with an unreadable part is skipped, however many parts it has.
-#[test]
-fn an_unreadable_long_key(rt: HostRuntime) -> Result<(), AllocError> {
-    let alloc = rt.alloc();
-    let longest = repeated(alloc, 64)?;
-    let row = format!(in alloc;
-        "replay KAT d.json|d.json={{\"{longest}/UE\": \"x\"}}|0|KAT untranslated"
-    )?;
-    check_row(&rt, alloc, &row)
+    let rows = LONG_KEYS.replace(alloc, '~', &longest)?;
+    let rows = rows.replace(alloc, '^', &longer)?;
+    check_rows(&rt, alloc, &rows)
 }
 
 /// Runs the program with these arguments after its name.
