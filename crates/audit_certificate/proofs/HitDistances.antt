@@ -1,9 +1,8 @@
 -- The listed hits of a pair are its hits with their least distances, and each listed state leads on.
-use Rattle.std.proofs.Common.{◌≡◌, ℕ, zero, suc, ◌+◌, ◌<◌, ◌≤◌, List, [], ◌∷◌, length, map, filter, refl, sym, ap, subst, arith, Bool, true, false, true≢false, Option, Some, None, ◌∙◌, Contains}
+use Rattle.std.proofs.Common.{◌≡◌, ℕ, suc, ◌+◌, ◌<◌, ◌≤◌, List, length, filter, refl, sym, ap, subst, arith, Bool, true, true≢false, Option, Some, None, ◌∙◌, Contains}
 use Rattle.std.specs.Prelude.{◌&&◌, ◌==◌, nat_le, option_and_then, is_some}
-use Rattle.std.specs.List.{list_all, list_any}
 use Rattle.std.proofs.lemmas.Bool.{eqb-true, eq-eqb, le-leb}
-use Rattle.graph_rules.specs.Graphs.{AreSettled, HasTarget, IsBest, Reaches, most_numbers, row}
+use Rattle.graph_rules.specs.Graphs.{AreSettled, HasTarget, IsBest, most_numbers}
 use Rattle.graph_rules.proofs.Rows.{HasTarget-Contains, best_of_walk}
 use Rattle.graph_rules.proofs.SettledLemmas.{settled-kept, best-kept}
 use Rattle.steno_rules.specs.Outlines.{AreEntries, AreWords, flagged_entries}
@@ -19,12 +18,12 @@ use Rattle.closure_laws.proofs.StateLemmas.{IsState-Walk, IsState-target}
 use Rattle.closure_laws.proofs.TargetLemmas.{targets-Contains}
 use Rattle.closure_laws.proofs.StateNumberLemmas.{shape_of_state, shaped-below}
 use Rattle.certificate.specs.CertTexts.{Listed}
-use Rattle.certificate_laws.specs.Closures.{Closure, Pair, closure_of, hit_pair}
+use Rattle.certificate_laws.specs.Closures.{Pair, closure_of, hit_pair}
 use Rattle.certificate_laws.specs.Validity.{hit_distances, is_listed_within, is_pair, leads_on_by}
 use Rattle.certificate_laws.proofs.HitLemmas.{hit_pair-there, hit_pair-hit}
 use Rattle.certificate_laws.proofs.HoldLemmas.{both, both_back}
 use Rattle.audit_certificate.specs.OwnCertificates.{reached_states}
-use Rattle.audit_certificate.proofs.Tests.{all_pass, one_passes}
+use Rattle.audit_certificate.proofs.PassingAll.{all_pass, one_passes}
 use Rattle.audit_certificate.proofs.ReachedStates.{listed_best, best_listed}
 
 pair_same : (p q : Pair) → is_pair p (Some q) ≡ true → p ≡ q

@@ -1,4 +1,4 @@
-pub mod Tests
+pub mod PassingAll
 pub mod RunLemmas
 pub mod ReadBack
 pub mod ReachedStates
@@ -6,3 +6,11 @@ pub mod UpperHeld
 pub mod HitDistances
 pub mod RowsHeld
 pub mod OwnCertificates
+pub mod Added
+pub mod Fitting
+pub mod Puts
+pub mod RunSteps
+pub mod RowSteps
+pub mod Whole
+pub mod Proving
+pub mod Callers

@@ -1,18 +1,18 @@
 -- The certificate that an audit writes of itself is valid.
-use Rattle.std.proofs.Common.{◌≡◌, ℕ, zero, suc, ◌+◌, ◌-◌, ◌^◌, ◌<◌, ◌≤◌, List, [], ◌∷◌, ◌++◌, length, map, flat_map, refl, sym, ap, subst, arith, Bool, true, false, not, cond, Option, Some, None, ◌∙◌, append_assoc, Contains, AllPairs}
-use Rattle.std.specs.Prelude.{◌&&◌, ◌==◌, nat_lt, nat_le, All}
-use Rattle.std.specs.List.{list_all, range_with_len, AllByRecursion}
+use Rattle.std.proofs.Common.{◌≡◌, ℕ, ◌+◌, ◌-◌, ◌^◌, ◌<◌, ◌≤◌, List, [], ◌∷◌, ◌++◌, length, map, flat_map, refl, sym, ap, subst, arith, Bool, true, not, cond, Some, None, ◌∙◌, append_assoc, Contains, AllPairs}
+use Rattle.std.specs.Prelude.{◌&&◌, ◌==◌, nat_lt, nat_le}
+use Rattle.std.specs.List.{list_all, range_with_len}
 use Rattle.std.proofs.lemmas.Bool.{lt-ltb, eq-eqb}
 use Rattle.std.proofs.lemmas.List.{map-append, length-map, length-append, length_push}
 use Rattle.std.proofs.lemmas.List.Elements.{All-contains, Contains-append_left, Contains-append_right}
-use Rattle.graph_rules.specs.Graphs.{IsBest, most_numbers}
+use Rattle.graph_rules.specs.Graphs.{IsBest}
 use Rattle.steno_rules.specs.Outlines.{IsOutline, flagged_entries, outline_of}
-use Rattle.steno_rules.specs.StateNumbers.{number_count, state_of_number}
+use Rattle.steno_rules.specs.StateNumbers.{number_count}
 use Rattle.steno_rules.specs.Conflicts.{IsWordNumber}
 use Rattle.steno_rules.specs.ClosureGraphs.{kept_lists}
 use Rattle.steno_rules.specs.States.{fresh, kept_targets}
 use Rattle.steno_rules.proofs.FlaggedWords.{flagged-are}
-use Rattle.steno_rules.proofs.Lists.{all_by_recursion, in_first, in_later, in_map_of}
+use Rattle.steno_rules.proofs.Lists.{in_first, in_later, in_map_of}
 use Rattle.closure_laws.proofs.GraphLemmas.{length-lists}
 use Rattle.closure_laws.proofs.StateLemmas.{IsState-fresh}
 use Rattle.closure_laws.proofs.StateNumberLemmas.{shape_of_state, shaped-below}
@@ -22,18 +22,17 @@ use Rattle.certificate.specs.CertReading.{read_lines}
 use Rattle.certificate.specs.CertTexts.{Listed, Run, certificate_lines, runs_of}
 use Rattle.certificate.specs.declared.lines.CertLine.{CertLine}
 use Rattle.certificate.specs.declared.lines.CertLine.TheVariants as of
-use Rattle.certificate_laws.specs.Checks.{Check, Lines, accepted, announced, conflicts_line, end_checks, first_failure, line_at, listed_by, listed_in, outcome_by, outcome_of, then_check, upper_checks, upper_lines}
+use Rattle.certificate_laws.specs.Checks.{Check, Lines, announced, conflicts_line, end_checks, first_failure, line_at, listed_in, outcome_by, outcome_of, then_check, upper_checks, upper_lines}
 use Rattle.certificate_laws.specs.Closures.{Closure, closure_of}
 use Rattle.certificate_laws.specs.Validity.{IsValid, all_checks, content_check, is_listed_within, leads_on_by, listed_on_lines, listed_pairs, listing_checks, lower_checks, move_checks, row_checks}
 use Rattle.certificate_laws.specs.inside.Holding.{AllHold}
 use Rattle.certificate_laws.specs.inside.OnLines.{state_on_line}
 use Rattle.report.specs.declared.faults.Why.TheVariants as why
-use Rattle.certificate_laws.proofs.HoldLemmas.{both_back}
 use Rattle.certificate_laws.proofs.ListingLemmas.{on_lines-listed}
 use Rattle.certificate_laws.proofs.NearLemmas.{least_below}
 use Rattle.audit_certificate.specs.Runs.{states_of_run}
 use Rattle.audit_certificate.specs.OwnCertificates.{IsAudited, own_certificate, reached_states}
-use Rattle.audit_certificate.proofs.Tests.{all_pass, in_range, one_passes}
+use Rattle.audit_certificate.proofs.PassingAll.{all_pass, in_range, one_passes}
 use Rattle.audit_certificate.proofs.RunLemmas.{HaveStates, runs-have, runs-states}
 use Rattle.audit_certificate.proofs.ReadBack.{AllFit, AllFit-append, read_back}
 use Rattle.audit_certificate.proofs.ReachedStates.{Rises, reached_rise}
@@ -176,7 +175,8 @@ module _ (entries : List (List ℕ)) (flags : List Bool) (table : List ℕ) (row
   pub own_lines : read_lines (own_certificate n table rows) ≡ map Some (certificate_lines n count all rows)
   own_lines = read_back (certificate_lines n count all rows) all_fit
 
-  read_is : read_lines (own_certificate n table rows) ≡ lines
+  -- It is read back as these lines.
+  pub read_is : read_lines (own_certificate n table rows) ≡ lines
   read_is = own_lines ∙ lines_are n count all rows
 
   listed_is : listed_in above ≡ all

@@ -1,13 +1,13 @@
 -- The rows of a certificate hold: they are those of the listed pairs, in order.
-use Rattle.std.proofs.Common.{◌≡◌, ℕ, zero, suc, ◌+◌, ◌-◌, ◌<◌, ◌≤◌, List, [], ◌∷◌, ◌++◌, length, map, filter, refl, sym, ap, subst, arith, Bool, true, false, true≢false, Option, Some, None, ◌∙◌, append_assoc, Contains, inl, inr, ◌⊎◌, AllPairs}
+use Rattle.std.proofs.Common.{◌≡◌, ℕ, zero, suc, ◌+◌, ◌≤◌, List, [], ◌∷◌, ◌++◌, length, map, refl, sym, ap, subst, arith, Bool, true, false, true≢false, Option, Some, ◌∙◌, append_assoc, Contains, inl, inr, ◌⊎◌, AllPairs}
 use Rattle.std.specs.Prelude.{◌&&◌, ◌==◌, nat_lt, nat_le, slice_get, slice_index_or}
 use Rattle.std.specs.List.{list_all, list_any}
 use Rattle.std.proofs.lemmas.Bool.{eq-eqb, lt-ltb, le-leb, ltb-true}
 use Rattle.std.proofs.lemmas.List.{length_push}
 use Rattle.std.proofs.lemmas.List.Elements.{All-contains}
 use Rattle.graph_rules.specs.Graphs.{AreSettled, most_numbers}
-use Rattle.steno_rules.specs.Outlines.{AreEntries, AreWords, flagged_entries, outline_of}
-use Rattle.steno_rules.specs.Conflicts.{AreWordNumbers, IsLeast, IsWordNumber, joined_strokes}
+use Rattle.steno_rules.specs.Outlines.{AreEntries, AreWords, flagged_entries}
+use Rattle.steno_rules.specs.Conflicts.{IsLeast, IsWordNumber, joined_strokes}
 use Rattle.steno_rules.specs.StateNumbers.{number_count}
 use Rattle.steno_rules.specs.ClosureGraphs.{kept_lists}
 use Rattle.steno_rules.proofs.FlaggedWords.{flagged-are, flagged-flag}
@@ -29,7 +29,7 @@ use Rattle.certificate_laws.proofs.RowLemmas.{AreRowsOf}
 use Rattle.certificate_laws.proofs.RowTests.{words_show-Decides}
 use Rattle.certificate_laws.proofs.UpperLemmas.{line_after}
 use Rattle.audit_certificate.specs.OwnCertificates.{reached_states}
-use Rattle.audit_certificate.proofs.Tests.{all_pass, one_passes}
+use Rattle.audit_certificate.proofs.PassingAll.{all_pass, one_passes}
 use Rattle.audit_certificate.proofs.HitDistances.{hit_there, hit_among}
 
 -- ---- lists in order that have the same elements

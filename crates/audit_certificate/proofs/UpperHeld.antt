@@ -1,6 +1,6 @@
 -- The lines of a certificate down to the conflicts hold.
-use Rattle.std.proofs.Common.{◌≡◌, ℕ, zero, suc, ◌+◌, ◌-◌, ◌<◌, ◌≤◌, List, [], ◌∷◌, ◌++◌, length, take, map, flat_map, refl, sym, ap, subst, arith, Bool, true, false, Option, Some, None, ◌∙◌, append_assoc, append-nil, AllPairs, Contains}
-use Rattle.std.specs.Prelude.{◌&&◌, ◌==◌, nat_lt, nat_le}
+use Rattle.std.proofs.Common.{◌≡◌, ℕ, suc, ◌+◌, ◌-◌, ◌≤◌, List, [], ◌∷◌, ◌++◌, length, take, map, flat_map, refl, sym, ap, subst, arith, true, Option, Some, ◌∙◌, append_assoc, append-nil, AllPairs, Contains}
+use Rattle.std.specs.Prelude.{nat_lt}
 use Rattle.std.specs.List.{list_all, position_or_len, range_with_len}
 use Rattle.std.proofs.Math.Seq.{take-append_seam}
 use Rattle.std.proofs.lemmas.Bool.{lt-ltb, le-leb, eq-eqb}
@@ -11,14 +11,14 @@ use Rattle.std.proofs.lemmas.List.Elements.{Contains-append_left}
 use Rattle.certificate.specs.declared.lines.CertLine.{CertLine}
 use Rattle.certificate.specs.declared.lines.CertLine.TheVariants as of
 use Rattle.certificate.specs.CertTexts.{Listed, Run}
-use Rattle.certificate_laws.specs.Checks.{Lines, is_conflicts, conflicts_line, upper_lines, line_at, listed_by, listed_in, upper_checks, rise_above}
+use Rattle.certificate_laws.specs.Checks.{Lines, is_conflicts, conflicts_line, upper_lines, line_at, listed_by, upper_checks, rise_above}
 use Rattle.certificate_laws.specs.Closures.{Closure}
 use Rattle.certificate_laws.specs.Validity.{content_check}
 use Rattle.certificate_laws.specs.inside.Holding.{AllHold}
 use Rattle.certificate_laws.proofs.HoldLemmas.{both, both_back}
 use Rattle.certificate_laws.proofs.UpperLemmas.{upper_from, upper_checks-from, line_after}
 use Rattle.audit_certificate.specs.Runs.{states_of_run}
-use Rattle.audit_certificate.proofs.Tests.{all_pass, pairs_across}
+use Rattle.audit_certificate.proofs.PassingAll.{all_pass, pairs_across}
 use Rattle.audit_certificate.proofs.RunLemmas.{HaveStates}
 use Rattle.audit_certificate.proofs.ReachedStates.{Rises}
 

@@ -1,2 +1,5 @@
 pub mod Runs
 pub mod OwnCertificates
+pub mod Written
+pub mod Proving
+pub mod inside

@@ -2,7 +2,7 @@
 --     states_of_run run                  the states of a run, each with its distance
 --     ContinuesRun run next                 the two could be one run
 --     AreLongestRuns listed runs      the runs have exactly these states, and no two neighbours could be one
-use Rattle.std.specs.Prelude.{ℕ, ◌+◌, ◌-◌, ◌≤◌, ◌≡◌, List, ◌∷◌, ◌++◌, All, map, flat_map}
+use Rattle.std.specs.Prelude.{◌+◌, ◌-◌, ◌≤◌, ◌≡◌, List, ◌∷◌, ◌++◌, All, map, flat_map}
 use Rattle.std.specs.List.{range_with_len}
 use Rattle.certificate.specs.CertTexts.{Listed, Run}
 

@@ -1,11 +1,16 @@
 //! The certificate that an audit writes of itself: a file that proves the report without the search.
 //!
-//! A search leaves a settled word for each number of a state, and the conflicts are read from these. The certificate has
-//! both: the reached states with their distances, as runs of states that follow one another and have one distance, and the
-//! conflicts with their examples. Whoever doubts the report checks this file, without a search.
+//! A search leaves a settled word for each number of a state, and the conflicts are read from these. [`write_certificate`]
+//! writes both to a file: the reached states with their distances, as runs of states that follow one another and have one
+//! distance, and the conflicts with their examples. Whoever doubts the report checks this file, without a search.
 //!
-//! What the certificate is stands in specs/. The law here is that it is valid and that no run could be longer.
+//! That the certificate is valid, and that no run could be longer, is the law [`own_certificates`].
 #![tactic(auto)]
+
+mod lines;
+mod rows;
+mod runs;
+mod writing;
 
 ghost use Rattle.std.specs.Prelude.{ℕ, List, Bool, ◌≡◌, Some, length, map};
 ghost use Rattle.longest_match.specs.Rows.{Row};
@@ -15,6 +20,8 @@ ghost use Rattle.certificate_laws.specs.Closures.{closure_of};
 ghost use Rattle.certificate_laws.specs.Validity.{IsValid};
 ghost use Rattle.audit_certificate.specs.Runs.{AreLongestRuns};
 ghost use Rattle.audit_certificate.specs.OwnCertificates.{IsAudited, own_certificate, reached_states};
+
+pub use writing::write_certificate;
 
 /// The certificate that an audit writes of itself is valid. It is read back line by line, and its runs are longest.
 pub fn own_certificates()
@@ -28,3 +35,6 @@ pub fn own_certificates()
     ensures runs { (table : List ℕ)
         → AreLongestRuns (reached_states table) (runs_of (reached_states table)) }
 {}
+
+#[cfg(test)]
+mod tests;

@@ -5,10 +5,13 @@ use Rattle.std.proofs.Math.Seq.{take-length}
 use Rattle.outside.specs.Faults.{Rose}
 use Rattle.outside.specs.Files.{FilesView}
 use Rattle.outside.proofs.Known.{append_known-append, append_known-empty}
-use Rattle.report.specs.Refusals.{RefusalView, refusal_text, no_memory, file_failed, not_words, certificate_failed, not_json, not_object, not_text, too_many_dictionaries, too_many_bytes, outline_too_long, too_many_entries, too_many_nodes, too_many_states, certificate_too_long, rejected}
-use Rattle.audit_top.specs.Commands.{CommandView, checks, dictionaries_in, finds}
-use Rattle.audit_top.specs.Expected.{Expected, Inputs, Written}
-use Rattle.audit_top.specs.Runs.{AddsPart, Ends, EndsAsExpected, EndsWhole, FileFailed, IsFailure, IsFilePart, IsRun, MayProduce, NoFault, OutputView, PutsFailure, World}
+use Rattle.report.specs.Refusals.{RefusalView, refusal_text, no_memory, file_failed, not_words, certificate_failed, not_json, not_object, not_text, not_report, too_many_dictionaries, too_many_bytes, outline_too_long, too_many_entries, too_many_nodes, too_many_states, certificate_too_long, rejected}
+use Rattle.commands.specs.Commands.{CommandView}
+use Rattle.commands.specs.Inputs.{certificate_in, checks, dictionaries_in, file_in, finds, report_in, target_of}
+use Rattle.audit_top.specs.Outcomes.{Expected, Inputs, Written}
+use Rattle.outside.specs.declared.fault.Way.{Way}
+use Rattle.outside.specs.declared.fault.Way.TheVariants.{Reading, Writing}
+use Rattle.audit_top.specs.Runs.{AddsPart, Ends, EndsAsExpected, EndsWhole, FailedAt, FileFailed, IsFailure, IsFilePart, IsRun, MayProduce, NoFault, OutputView, PutsFailure, World}
 use Rattle.audit_top.specs.Statuses.{refusal_status}
 use Rattle.audit_top.specs.inside.Answers.{Begins, Begun, IsAnswer, IsAnswered, IsStopped, Refuses}
 use Rattle.audit_top.specs.inside.Endings.{EndsLine, EndsMemory, EndsStop, Finishes}
@@ -17,7 +20,7 @@ use Rattle.audit_top.specs.declared.refusals.Refusal.{Refusal}
 use Rattle.audit_top.specs.declared.status.Status.{Status}
 use Rattle.audit_top.specs.declared.status.Status.TheVariants.{Conflicts, Words, File, Output, Memory, Rejected}
 use Rattle.audit_top.proofs.Causes.{fits}
-use Rattle.audit_top.proofs.Stacks.{are-some, at, some_contents}
+use Rattle.audit_top.proofs.Stacks.{are-some, at, is-some_file, some_contents, some_file}
 use Rattle.audit_top.proofs.Stops.{begins-nothing}
 
 -- ---- the texts
@@ -116,14 +119,24 @@ ends May before files mid after (Err refusal) status is end = ends-stopped May b
 
 -- ---- causes
 
--- a file's failure has its status, and writes no file
+rose_at : (name : Option (List ℕ)) (way : Way) (old new : FilesView) → FailedAt name way old new → Rose old.faults new.faults
+rose_at None way old new failed = absurd failed
+rose_at (Some name) way old new failed = failed.rose
+
+-- a file's failure has its status, and the count of faults rose
 failure_fits : (command : Option CommandView) (inputs : Inputs) (old new : FilesView) (refusal : RefusalView) → FileFailed command inputs old new refusal → (refusal_status refusal ≡ File) × Rose old.faults new.faults
-failure_fits command inputs old new (file_failed file) failed = (refl, failed.fault.rose)
+failure_fits command inputs old new (file_failed file) (inl failed) = (refl, failed.fault.rose)
+failure_fits command inputs old new (file_failed file) (inr failed) = (refl, rose_at (report_in command) Reading old new failed.1)
 failure_fits command inputs old new not_words failed = absurd failed
-failure_fits command inputs old new certificate_failed failed = absurd failed
+failure_fits command inputs old new certificate_failed failed = (refl, by failed.failed)
+  where
+    by : FailedAt (certificate_in command) Reading old new ⊎ FailedAt (target_of command) Writing old new → Rose old.faults new.faults
+    by (inl read) = rose_at (certificate_in command) Reading old new read
+    by (inr written) = rose_at (target_of command) Writing old new written
 failure_fits command inputs old new (not_json file) failed = absurd failed
 failure_fits command inputs old new (not_object file) failed = absurd failed
 failure_fits command inputs old new (not_text file key) failed = absurd failed
+failure_fits command inputs old new (not_report file) failed = absurd failed
 failure_fits command inputs old new (too_many_dictionaries n) failed = absurd failed
 failure_fits command inputs old new (too_many_bytes file) failed = absurd failed
 failure_fits command inputs old new (outline_too_long file key parts) failed = absurd failed
@@ -228,12 +241,12 @@ run-finished command before files mid after answer status is end =
 -- a run whose memory ran out at once
 pub memory-run : (command : Option CommandView) (files : FilesView) (old new : OutputView) (status : Status) → EndsMemory old new status → IsRun command (at files old) (at files new) status
 memory-run command files old new status end =
-    let inputs : Inputs = record { dictionaries = some_contents files.held (dictionaries_in command) } in
+    let inputs : Inputs = record { dictionaries = some_contents files.held (dictionaries_in command); file = some_file files.held (file_in command) } in
     let May : Expected → Type 0 = MayProduce command inputs (at files old) (at files new) in
     let ended = ends-memory May (at files old) files old new status (record { text = begins-nothing May old.text; file = None; part = tt; files = refl }) refl end in
     record {
       inputs = inputs;
-      read = record { dictionaries = are-some files.held (dictionaries_in command) };
+      read = record { dictionaries = are-some files.held (dictionaries_in command); file = is-some_file files.held (file_in command) };
       ends = ended;
       found = found command inputs (at files old) (at files new) status ended;
       arguments = arguments command inputs (at files old) (at files new) status ended;

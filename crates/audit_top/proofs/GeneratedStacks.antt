@@ -7,7 +7,8 @@ use Rattle.dict_stack.specs.declared.faults.StackFault.TheVariants as stack
 use Rattle.report.specs.Refusals.{RefusalView, too_many_entries}
 use Rattle.dict_files.specs.Refusals.{first_of}
 use Rattle.dict_files.proofs.FirstRefusals.{if_over-over, if_over-within}
-use Rattle.audit_top.specs.Expected.{IsAuditGenerated, IsSummary, UnlessRefused, entries_limit, generated_stack, search_limit}
+use Rattle.audit_top.specs.Outcomes.{UnlessRefused, search_limit}
+use Rattle.audit_top.specs.Audited.{IsAuditGenerated, IsSummary, entries_limit, generated_stack}
 use Rattle.audit_top.specs.Runs.{OutputView}
 use Rattle.audit_top.specs.inside.Answers.{Answers}
 use Rattle.audit_top.specs.inside.Stops.{refusal_of_stack, stop_of}

@@ -1,6 +1,3 @@
-pub mod Values
-pub mod CommandLaw
-pub mod Written
 pub mod Causes
 pub mod Stops
 pub mod Stacks
@@ -9,3 +6,13 @@ pub mod Headlines
 pub mod Reports
 pub mod Unique
 pub mod GeneratedStacks
+pub mod OtherFiles
+pub mod Certificates
+pub mod Typed
+pub mod Writing
+pub mod Listing
+pub mod Upgrading
+pub mod Keeping
+pub mod Parsing
+pub mod Puts
+pub mod StackEntries

@@ -13,7 +13,7 @@ use Rattle.closure_laws.proofs.GraphLemmas.{length-lists}
 use Rattle.steno_rules.specs.States.{kept_targets}
 use Rattle.steno_rules.specs.StateNumbers.{number_count}
 use Rattle.steno_rules.specs.ClosureGraphs.{kept_lists}
-use Rattle.graph_rules.specs.Graphs.{AreSettled}
+use Rattle.graph_rules.specs.Graphs.{AreSettled, most_numbers}
 use Rattle.std.proofs.Common.{ℕ, ◌≡◌, ◌<◌, ◌≤◌, ◌∙◌, List, [], ap, sym, subst, length, Option, Some, None, Result, Err, arith, ◌^◌, refl, IsSome, true≢false}
 use Rattle.std.specs.Option.{unwrap_or}
 use Rattle.steno_rules.specs.Nodes.{nodes}
@@ -34,7 +34,9 @@ use Rattle.outline_trie.specs.Causes.{IsTrieCause}
 use Rattle.outline_trie.specs.declared.trie.TrieFault.{TrieFault}
 use Rattle.outline_trie.specs.declared.trie.TrieFault.TheVariants as trie
 use Rattle.outline_trie.specs.declared.trie.TheConstants.Trie.{MAX_NODES}
-use Rattle.audit_top.specs.Expected.{Expected, IsReplay, PrintsConflicts, UnlessRefused, prints, trie_limit, reached_count, search_limit, summary_by, summary_of}
+use Rattle.audit_top.specs.Outcomes.{Expected, UnlessRefused, prints, trie_limit, search_limit}
+use Rattle.audit_top.specs.Translated.{IsReplay}
+use Rattle.audit_top.specs.Audited.{Made, PrintsConflicts, reached_count, summary_by, summary_of}
 use Rattle.audit_top.specs.Statuses.{audit_status}
 use Rattle.audit_top.specs.Runs.{OutputView}
 use Rattle.audit_top.specs.inside.Answers.{Answers}
@@ -53,9 +55,9 @@ replay-is stack outline strokes found read is =
     ∙ ap (λ o. prints Clean (replay_text stack (unwrap_or o []))) (sym read)
 
 -- what is printed of the conflicts that were found is an expected text
-pub conflicts-are : (text : StackView → SettledView → List Row → List ℕ) (stack : StackView) (searched : SettledView) (rows : List Row) → AreConflicts stack.outlines (words_in_stack stack) rows → AreChosen stack.outlines (words_in_stack stack) searched.words rows
-    → IsSearched 0 (kept_lists stack.outlines (words_in_stack stack)) searched → PrintsConflicts text stack (prints (audit_status rows) (text stack searched rows))
-conflicts-are text stack searched rows exact chosen search = record {
+pub conflicts-are : (make : Made) (stack : StackView) (searched : SettledView) (rows : List Row) → AreConflicts stack.outlines (words_in_stack stack) rows → AreChosen stack.outlines (words_in_stack stack) searched.words rows
+    → IsSearched 0 (kept_lists stack.outlines (words_in_stack stack)) searched → PrintsConflicts make stack (make stack searched rows)
+conflicts-are make stack searched rows exact chosen search = record {
   rows = rows;
   searched = searched;
   exact = exact;
@@ -104,6 +106,9 @@ pub search-over_states : (stack : StackView) (count : ℕ) → length (nodes sta
 search-over_states stack count within over is = states_first stack within ∙ if_over-over most_states too_many_states (number_count stack.outlines) over ∙ ap (λ (n : ℕ). Some (too_many_states n)) (sym is)
 
 -- a search within the limit of states has few words
+pub few-numbers : (stack : StackView) (words : List (List ℕ)) (table : List ℕ) → number_count stack.outlines ≤ most_states → AreSettled 0 (kept_lists stack.outlines words) table → length table ≤ most_numbers
+few-numbers stack words table few settled = let count = settled.count ∙ length-lists stack.outlines words (kept_targets stack.outlines words) in omega (arith, few, count)
+
 pub few-words : (stack : StackView) (words : List (List ℕ)) (table : List ℕ) → number_count stack.outlines ≤ most_states → AreSettled 0 (kept_lists stack.outlines words) table → length table < 2 ^ 32
 few-words stack words table few settled = let count = settled.count ∙ length-lists stack.outlines words (kept_targets stack.outlines words) in omega (arith, few, count)
 

@@ -7,7 +7,7 @@ use Rattle.outside.proofs.Known.{append_known-empty}
 use Rattle.report.specs.Refusals.{RefusalView, refusal_text, no_memory}
 use Rattle.outside.specs.declared.fault.OutsideFault.{OutsideFault}
 use Rattle.outside.specs.declared.fault.OutsideFault.TheVariants as report
-use Rattle.audit_top.specs.Expected.{Expected, UnlessRefused, refused}
+use Rattle.audit_top.specs.Outcomes.{Expected, UnlessRefused, refused}
 use Rattle.audit_top.specs.Runs.{IsBegun, OutputView}
 use Rattle.audit_top.specs.inside.Answers.{Answers, Begins, Stops}
 use Rattle.audit_top.specs.inside.Endings.{EndsMemory}
@@ -29,7 +29,7 @@ ran-out May out answer refusal is memory = subst (Answers May out out) (sym (is 
 pub refused-first : (May : Expected → Type 0) (out : OutputView) (answer : Result Status Refusal) (reason : Refusal) (refusal : RefusalView) → answer ≡ Err reason → stop_of reason ≡ by_refusal refusal → May (refused refusal) → Answers May out out answer
 refused-first May out answer reason refusal is stop may = subst (Answers May out out) (sym is) (subst (Stops May out out) (sym stop) (may, refl))
 
-prefix-begun : (May : Expected → Type 0) (old new : Option (List ℕ)) (result : Expected) → May result → AppendsPrefix old new result.text → Begins May old new
+pub prefix-begun : (May : Expected → Type 0) (old new : Option (List ℕ)) (result : Expected) → May result → AppendsPrefix old new result.text → Begins May old new
 prefix-begun May old new result may (n, within, added) = record { begun = take n result.text; is_begun = inr (result, may, (n, refl)); added = added }
 
 put_stops : {T : Type 0} (May : Expected → Type 0) (old new : OutputView) (result : Expected) (fault : OutsideFault) → May result

@@ -10,7 +10,7 @@ use Rattle.dict_files.specs.Refusals.{stack_from}
 use Rattle.dict_files.specs.Contents.{AreContents}
 use Rattle.report.specs.Reports.{report_text}
 use Rattle.report.specs.declared.reports.Summary.{Summary}
-use Rattle.audit_top.specs.Commands.{CommandView, audit}
+use Rattle.commands.specs.Commands.{CommandView, audit}
 use Rattle.audit_top.specs.Statuses.{audit_status}
 use Rattle.audit_top.specs.declared.status.Status.{Status}
 use Rattle.audit_top.specs.declared.status.Status.TheVariants.{Clean, Conflicts}

@@ -1,7 +1,15 @@
-pub mod Commands
 pub mod Statuses
+pub mod Outcomes
+pub mod Translated
+pub mod Audited
+pub mod Listed
+pub mod Kept
+pub mod Parsed
+pub mod Checked
+pub mod Upgraded
 pub mod Expected
 pub mod Runs
 pub mod Programs
 pub mod Headline
+pub mod Promises
 pub mod inside

@@ -8,7 +8,7 @@ use Rattle.std.specs.declared.io.Error.{Error}
 use Rattle.std.specs.declared.io.ErrorKind.{ErrorKind}
 use Rattle.std.specs.declared.io.ErrorKind.TheVariants.{OutOfMemory}
 use Rattle.std.specs.declared.vec.IntoIter.{IntoIter}
-use Rattle.audit_top.specs.Commands.{command_of}
+use Rattle.commands.specs.Reading.{command_of}
 use Rattle.audit_top.specs.Runs.{IsRun, World}
 use Rattle.audit_top.specs.Statuses.{exit_code}
 use Rattle.audit_top.specs.declared.status.Status.{Status}

@@ -1,14 +1,19 @@
 -- What a run does.
 --     IsRun command before after status     a run of the command from one moment to another that ends with this status
--- Nothing here speaks of one command: what each is expected to produce, reads and writes is said in `Expected` and `Commands`.
-use Rattle.std.specs.Prelude.{ℕ, ◌≡◌, ◌⊎◌, List, [], ◌++◌, false, true, take, Option, Some, None, ⊤}
+-- Nothing here speaks of one command: what each is expected to produce, reads and writes is said in `Expected` and in the crate `commands`.
+use Rattle.std.specs.Prelude.{ℕ, ◌≡◌, ◌⊎◌, List, [], ◌++◌, false, true, take, Option, Some, None, IfSome, IsSome, ⊤}
 use Rattle.std.specs.Io.KnownBytes.{append_known}
 use Rattle.outside.specs.Faults.{Rose}
-use Rattle.outside.specs.Files.{Held, FilesView, Both, LeavesFiles, Replaces}
-use Rattle.report.specs.Refusals.{RefusalView, file_failed, refusal_text, no_memory}
+use Rattle.outside.specs.Files.{Held, FaultAt, FilesView, Both, LeavesFiles, Replaces}
+use Rattle.outside.specs.declared.fault.Way.{Way}
+use Rattle.outside.specs.declared.fault.Way.TheVariants.{Reading, Writing}
+use Rattle.report.specs.Refusals.{RefusalView, certificate_failed, file_failed, refusal_text, no_memory}
 use Rattle.dict_files.specs.Contents.{AreContents, NamesOpened, ReadingFailed}
-use Rattle.audit_top.specs.Commands.{CommandView, checks, dictionaries_in, finds, reads_files, writes}
-use Rattle.audit_top.specs.Expected.{Expected, Inputs, IsExpected, Written}
+use Rattle.dict_files.specs.Refusals.{dictionaries_refusal, first_of, stack_from}
+use Rattle.commands.specs.Commands.{CommandView}
+use Rattle.commands.specs.Inputs.{certificate_in, checks, dictionaries_in, file_in, finds, reads_files, report_in, target_of, writes}
+use Rattle.audit_top.specs.Outcomes.{Expected, Inputs, Written, search_limit}
+use Rattle.audit_top.specs.Expected.{IsExpected}
 use Rattle.audit_top.specs.Statuses.{refusal_status}
 use Rattle.audit_top.specs.declared.status.Status.{Status}
 use Rattle.audit_top.specs.declared.status.Status.TheVariants.{Conflicts, Words, File, Output, Memory, Rejected}
@@ -35,11 +40,31 @@ world files text faults = record { files = files; out = output text faults }
 pub record AreInputs (command : Option CommandView) (told : Option Held) (inputs : Inputs)
     : Type 0 where
   pub dictionaries : AreContents told (dictionaries_in command) inputs.dictionaries
+  pub file : IfSome told (λ held. IfSome (file_in command) (λ name. inputs.file ≡ Some (held name)))
+
+-- the file of this name, if there is one, failed in this call
+abbrev pub FailedAt : Option (List ℕ) → Way → FilesView → FilesView → Type 0
+FailedAt None way old new = ⊥
+FailedAt (Some name) way old new = FaultAt name way old new
+
+-- the dictionaries are refused, or their stack is over a limit of searching
+abbrev pub stack_refusal : List (List ℕ) → List (List ℕ) → Option RefusalView
+stack_refusal args contents =
+    first_of (dictionaries_refusal args contents) (search_limit (stack_from args contents))
+
+-- the certificate failed, as it was read or as it was written
+pub record CertificateFailed (command : Option CommandView) (inputs : Inputs)
+    (old new : FilesView) : Type 0 where
+  pub accepted : stack_refusal (dictionaries_in command) inputs.dictionaries ≡ None
+  pub failed : FailedAt (certificate_in command) Reading old new
+      ⊎ FailedAt (target_of command) Writing old new
 
 -- a file that the command names failed in this call, after everything before it was accepted, and this is its line
 abbrev pub FileFailed : Option CommandView → Inputs → FilesView → FilesView → RefusalView → Type 0
 FileFailed command inputs old new (file_failed file) =
     ReadingFailed (dictionaries_in command) inputs.dictionaries old new file
+    ⊎ ((file ≡ 1) × FailedAt (report_in command) Reading old new)
+FileFailed command inputs old new certificate_failed = CertificateFailed command inputs old new
 FileFailed command inputs old new refusal = ⊥
 
 -- such a file and its line
@@ -133,6 +158,7 @@ pub record PutsFailure (command : Option CommandView) (inputs : Inputs) (before 
 abbrev pub OpensNamed : Option CommandView → FilesView → FilesView → Type 0
 OpensNamed command old new =
     (new.opened ≡ old.opened) ⊎ NamesOpened (dictionaries_in command) new.opened
+    ⊎ (IsSome (file_in command) × (new.opened ≡ file_in command))
 
 -- no file failed, or one that the arguments name
 abbrev pub FailsNamed : Option CommandView → Inputs → FilesView → FilesView → Type 0

@@ -1,7 +1,7 @@
 -- Statuses: their numbers, that of an audit that reports conflicts, and that of a run that ends with the line of a refusal.
 use Rattle.std.specs.Prelude.{ℕ, List, [], ◌∷◌}
 use Rattle.longest_match.specs.Rows.{Row}
-use Rattle.report.specs.Refusals.{RefusalView, not_words, file_failed, certificate_failed, not_json, not_object, not_text, too_many_dictionaries, too_many_bytes, outline_too_long, too_many_entries, too_many_nodes, too_many_states, certificate_too_long, no_memory, rejected}
+use Rattle.report.specs.Refusals.{RefusalView, not_words, file_failed, certificate_failed, not_json, not_object, not_text, not_report, too_many_dictionaries, too_many_bytes, outline_too_long, too_many_entries, too_many_nodes, too_many_states, certificate_too_long, no_memory, rejected}
 use Rattle.audit_top.specs.declared.status.Status.{Status}
 use Rattle.audit_top.specs.declared.status.Status.TheVariants.{Clean, Conflicts, Words, File, Refused, Limit, Output, Memory, Rejected}
 
@@ -30,6 +30,7 @@ refusal_status certificate_failed = File
 refusal_status (not_json file) = Refused
 refusal_status (not_object file) = Refused
 refusal_status (not_text file key) = Refused
+refusal_status (not_report file) = Refused
 refusal_status (too_many_dictionaries n) = Limit
 refusal_status (too_many_bytes file) = Limit
 refusal_status (outline_too_long file key parts) = Limit

@@ -1,5 +1,4 @@
 pub mod Stops
 pub mod Answers
 pub mod Endings
-pub mod Written
 pub mod Forms

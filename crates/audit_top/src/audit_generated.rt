@@ -7,7 +7,7 @@ ghost use Rattle.dict_json.specs.Outcomes.{dictionary, dictionary_outcome};
 ghost use Rattle.dict_stack.specs.Faults.{IsStackCause};
 ghost use Rattle.dict_stack.specs.Stacks.{most_entries};
 ghost use Rattle.audit_top.specs.inside.Answers.{Answers};
-ghost use Rattle.audit_top.specs.Expected.{IsAuditGenerated, generated_stack};
+ghost use Rattle.audit_top.specs.Audited.{IsAuditGenerated, generated_stack};
 ghost use Rattle.audit_top.specs.Runs.{output};
 ghost use Rattle.steal_rounds.specs.declared.searches.TheConstants.{MAX_WORKERS};
 

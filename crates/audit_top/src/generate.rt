@@ -1,7 +1,7 @@
 //! `generate`: a dictionary that is made from two numbers.
 
 ghost use Rattle.std.specs.Prelude.{◌≡◌, ◌≤◌};
-ghost use Rattle.audit_top.specs.Expected.{IsGenerated};
+ghost use Rattle.audit_top.specs.Translated.{IsGenerated};
 ghost use Rattle.audit_top.specs.Runs.{output};
 ghost use Rattle.dict_json.specs.Generated.{most_generated};
 ghost use Rattle.audit_top.specs.inside.Answers.{Answers};

@@ -1,20 +1,17 @@
-//! What the definitions of the promise say of themselves. Each function does nothing, and its contract is a law.
+//! What the definitions of the promise say of themselves. The function does nothing, and its contract is a law.
 
-ghost use Rattle.std.specs.Prelude.{◌≡◌, ◌↔◌, false, ℕ, List, Option, Some};
-ghost use Rattle.audit_top.specs.Commands.{CommandView, IsCommand, command_of, searches};
-ghost use Rattle.audit_top.specs.Expected.{Expected, Inputs, IsExpected};
+ghost use Rattle.std.specs.Prelude.{◌≡◌, false, Option};
+ghost use Rattle.commands.specs.Commands.{CommandView};
+ghost use Rattle.commands.specs.Inputs.{searches};
+ghost use Rattle.audit_top.specs.Outcomes.{Expected, Inputs};
+ghost use Rattle.audit_top.specs.Expected.{IsExpected, IsTold};
 
-/// The function that reads arguments takes exactly those that are written as a command.
-pub fn command_arguments()
-    ensures { (args : List (List ℕ)) (command : CommandView) →
-        (command_of args ≡ Some command) ↔ IsCommand args command }
-{}
-
-/// At most one result is expected of a command on its inputs. So what a run produces without a fault is one function of the
-/// arguments and the files, whoever searches and in whatever order. Where nothing is searched there is such a result.
+/// At most one result is expected of a command on its inputs, where the files tell what they hold. So what a run produces without
+/// a fault is one function of the arguments and the files, whoever searches and in whatever order. Where nothing is searched there
+/// is such a result.
 pub fn expected_results()
     ensures some { (inputs : Inputs) (command : Option CommandView) →
         searches command ≡ false → (result : Expected) × IsExpected inputs command result }
     ensures one { (inputs : Inputs) (command : Option CommandView) (a b : Expected) →
-        IsExpected inputs command a → IsExpected inputs command b → a ≡ b }
+        IsTold command inputs → IsExpected inputs command a → IsExpected inputs command b → a ≡ b }
 {}

@@ -10,18 +10,22 @@
 
 mod audit;
 mod audit_generated;
-mod commands;
+mod audit_to;
+mod check;
+mod explain;
 mod generate;
 mod laws;
-mod numbers;
+mod parse;
 mod program;
 mod refusals;
 mod replay;
+mod rows;
+mod settled;
 mod status;
 mod top;
+mod upgrade;
 
-pub use commands::{Command, read_words};
-pub use laws::{command_arguments, expected_results};
+pub use laws::expected_results;
 pub use program::run_program;
 pub use status::Status;
 pub use top::{run, run_plain};

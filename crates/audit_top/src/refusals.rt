@@ -4,15 +4,18 @@ ghost use Rattle.std.specs.Prelude.{◌≡◌};
 ghost use Rattle.report.specs.Refusals.{refusal_of};
 ghost use Rattle.audit_top.specs.Runs.{output};
 ghost use Rattle.audit_top.specs.Statuses.{refusal_status};
-ghost use Rattle.audit_top.specs.inside.Stops.{refusal_of_load, refusal_of_numbers, refusal_of_report, refusal_of_stack, refusal_of_strokes, refusal_of_trie, stop_of};
+ghost use Rattle.audit_top.specs.inside.Stops.{refusal_of_cert, refusal_of_check, refusal_of_json, refusal_of_load, refusal_of_numbers, refusal_of_read, refusal_of_report, refusal_of_stack, refusal_of_strokes, refusal_of_trie, stop_of};
 ghost use Rattle.audit_top.specs.inside.Endings.{EndsLine, EndsMemory, EndsStop, Finishes};
 
 use crate::status::Status;
+use cert_check::CheckFault;
+use certificate::CertFault;
 use dict_files::LoadFault;
 use dict_stack::StackFault;
 use outline_trie::TrieFault;
-use outside::{OutsideFault, Sink};
-use report::{FaultLine, write_fault, write_memory};
+use outside::{OutsideFault, ReadFault, Sink};
+use report::{FaultLine, Why, write_fault, write_memory};
+use report_json::JsonFault;
 use state_numbering::NumberFault;
 use std::alloc::{AllocError, Global};
 use steno_order::StrokesFault;
@@ -25,6 +28,18 @@ pub(crate) enum Refusal {
     Dictionaries(LoadFault),
     Nodes { count: u64 },
     States { count: u64 },
+    /// Reading or writing the certificate failed.
+    Certificate,
+    CertificateLong,
+    /// The certificate isn't valid.
+    Rejected { line: u64, why: Why },
+    /// Reading the file of a report failed.
+    ReportFailed,
+    ReportLong,
+    /// The file is no JSON.
+    NotJson,
+    /// It is the JSON of no report.
+    NotReport,
     /// The output failed, so nothing more is written.
     Output,
     Memory,
@@ -78,6 +93,45 @@ impl From<OutsideFault> for Refusal {
     }
 }
 
+/// Of the file of a report.
+impl From<ReadFault> for Refusal {
+    ghost from_gives = { λ fault refusal. refusal ≡ refusal_of_read fault };
+
+    fn from(fault: ReadFault) -> Refusal {
+        match fault {
+            ReadFault::Failed => Refusal::ReportFailed,
+            ReadFault::TooLong => Refusal::ReportLong,
+            ReadFault::Memory => Refusal::Memory,
+        }
+    }
+}
+
+impl From<JsonFault> for Refusal {
+    ghost from_gives = { λ fault refusal. refusal ≡ refusal_of_json fault };
+
+    fn from(fault: JsonFault) -> Refusal {
+        match fault {
+            JsonFault::NotJson => Refusal::NotJson,
+            JsonFault::NotReport => Refusal::NotReport,
+            JsonFault::Memory => Refusal::Memory,
+        }
+    }
+}
+
+/// Of a certificate that is written. None of its lines is bad.
+impl From<CertFault> for Refusal {
+    ghost from_gives = { λ fault refusal. refusal ≡ refusal_of_cert fault };
+
+    fn from(fault: CertFault) -> Refusal {
+        match fault {
+            CertFault::Failed => Refusal::Certificate,
+            CertFault::TooLong => Refusal::CertificateLong,
+            CertFault::Memory => Refusal::Memory,
+            CertFault::Bad { .. } => Refusal::Certificate,
+        }
+    }
+}
+
 impl From<TrieFault> for Refusal {
     ghost from_gives = { λ fault refusal. refusal ≡ refusal_of_trie fault };
 
@@ -100,6 +154,19 @@ impl From<NumberFault> for Refusal {
     }
 }
 
+impl From<CheckFault> for Refusal {
+    ghost from_gives = { λ fault refusal. refusal ≡ refusal_of_check fault };
+
+    fn from(fault: CheckFault) -> Refusal {
+        match fault {
+            CheckFault::Rejected { line, why } => Refusal::Rejected { line, why },
+            CheckFault::Failed => Refusal::Certificate,
+            CheckFault::TooLong => Refusal::CertificateLong,
+            CheckFault::Memory => Refusal::Memory,
+        }
+    }
+}
+
 impl From<AllocError> for Refusal {
     ghost use Rattle.audit_top.specs.declared.refusals.Refusal.TheVariants.{Memory};
 
@@ -117,9 +184,10 @@ fn line_status(fault: &FaultLine<'_>) -> Status
     match *fault {
         FaultLine::Words => Status::Words,
         FaultLine::FileFailed { .. } | FaultLine::CertFailed => Status::File,
-        FaultLine::NotJson { .. } | FaultLine::NotObject { .. } | FaultLine::NotText { .. } => {
-            Status::Refused
-        }
+        FaultLine::NotJson { .. }
+        | FaultLine::NotObject { .. }
+        | FaultLine::NotText { .. }
+        | FaultLine::NotReport { .. } => Status::Refused,
         FaultLine::Dictionaries { .. }
         | FaultLine::Bytes { .. }
         | FaultLine::OutlineLong { .. }
@@ -168,6 +236,22 @@ fn end_refused<S: Sink>(alloc: Global, out: &mut S, refusal: &Refusal) -> Status
         Refusal::Dictionaries(fault) => put_line(alloc, out, &fault.line()),
         Refusal::Nodes { count } => put_line(alloc, out, &FaultLine::Nodes { count: *count }),
         Refusal::States { count } => put_line(alloc, out, &FaultLine::States { count: *count }),
+        Refusal::Certificate => put_line(alloc, out, &FaultLine::CertFailed),
+        Refusal::CertificateLong => put_line(alloc, out, &FaultLine::CertLong),
+        Refusal::Rejected { line, why } => {
+            put_line(
+                alloc,
+                out,
+                &FaultLine::Rejected {
+                    line: *line,
+                    why: *why,
+                },
+            )
+        }
+        Refusal::ReportFailed => put_line(alloc, out, &FaultLine::FileFailed { file: 1 }),
+        Refusal::ReportLong => put_line(alloc, out, &FaultLine::Bytes { file: 1 }),
+        Refusal::NotJson => put_line(alloc, out, &FaultLine::NotJson { file: 1 }),
+        Refusal::NotReport => put_line(alloc, out, &FaultLine::NotReport { file: 1 }),
     }
 }
 

@@ -4,8 +4,9 @@ ghost use Rattle.std.specs.Prelude.{◌≡◌, ◌<◌, ◌^◌, IsSome, Some, l
 ghost use Rattle.steno_rules.specs.Nodes.{nodes};
 ghost use Rattle.steno_order.specs.Reading.{spelt_strokes};
 ghost use Rattle.audit_top.specs.inside.Answers.{Answers, IsAnswer};
-ghost use Rattle.audit_top.specs.Commands.{replay as replay_of};
-ghost use Rattle.audit_top.specs.Expected.{IsReplay, UnlessRefused, trie_limit};
+ghost use Rattle.commands.specs.Commands.{replay as replay_of};
+ghost use Rattle.audit_top.specs.Outcomes.{UnlessRefused, trie_limit};
+ghost use Rattle.audit_top.specs.Translated.{IsReplay};
 ghost use Rattle.audit_top.specs.Runs.{output, world};
 
 use crate::refusals::Refusal;

@@ -1,19 +1,29 @@
 //! The top call.
 
 ghost use Rattle.std.specs.Prelude.{◌≡◌, ◌<◌, ◌^◌, All, IfSome, Some, false, map, option_map, string_bytes, string_len};
-ghost use Rattle.audit_top.specs.Commands.{command_of, command_view, searches};
+ghost use Rattle.commands.specs.Commands.{command_view};
+ghost use Rattle.commands.specs.Inputs.{searches};
+ghost use Rattle.commands.specs.Reading.{command_of};
 ghost use Rattle.audit_top.specs.Headline.{Headline};
+ghost use Rattle.audit_top.specs.Promises.{Explains, Keeps, Lists, Reads, Tells, Upgrades, Verifies};
 ghost use Rattle.audit_top.specs.Runs.{IsRun, world};
 ghost use Rattle.audit_top.specs.inside.Answers.{IsAnswer};
-ghost use Rattle.audit_top.specs.inside.Written.{IsWritten};
+ghost use Rattle.commands.specs.Written.{IsWritten};
 
-use crate::audit::audit;
+use crate::audit::{audit, audit_json};
 use crate::audit_generated::audit_generated;
-use crate::commands::{Command, read_words};
+use crate::audit_to::audit_to;
+use crate::check::check;
+use crate::explain::explain;
 use crate::generate::generate;
+use crate::parse::parse;
 use crate::refusals::{Refusal, finish};
 use crate::replay::replay;
+use crate::rows::rows;
+use crate::settled::settled;
 use crate::status::Status;
+use crate::upgrade::upgrade;
+use commands::{Command, read_words};
 use outside::{Files, Sink};
 use std::alloc::Global;
 use std::marker::{Send, Sync};
@@ -39,8 +49,26 @@ fn answer_plain<F: Files, S: Sink>(
             outline,
             files: dicts,
         } => replay(alloc, outline, dicts, files, out),
+        Command::Explain {
+            outlines,
+            files: dicts,
+        } => explain(alloc, outlines, dicts, files, out),
+        Command::Check {
+            certificate,
+            files: dicts,
+        } => check(alloc, certificate, dicts, files, out),
         Command::Generate { start, count } => generate(alloc, start, count, out),
-        Command::Audit { .. } | Command::AuditGenerated { .. } => unreachable!(),
+        Command::Rows { file } => rows(alloc, file, files, out),
+        Command::Upgrade {
+            certificate,
+            target,
+        } => upgrade(alloc, certificate, target, files, out),
+        Command::Audit { .. }
+        | Command::AuditJson { .. }
+        | Command::AuditTo { .. }
+        | Command::Settled { .. }
+        | Command::Parse { .. }
+        | Command::AuditGenerated { .. } => unreachable!(),
     }
 }
 
@@ -68,9 +96,29 @@ fn answer_command<R: Threads + Wait + Sync, F: Files, S: Sink, K: Gate + Sync>(
             count,
             workers,
         } => { audit_generated(rt, alloc, workers, start, count, out, gate) }
-        Command::Replay { .. } | Command::Generate { .. } => {
-            answer_plain(alloc, command, files, out)
-        }
+        Command::AuditJson {
+            workers,
+            files: dicts,
+        } => { audit_json(rt, alloc, workers, dicts, files, out, gate) }
+        Command::AuditTo {
+            certificate,
+            workers,
+            files: dicts,
+        } => { audit_to(rt, alloc, certificate, workers, dicts, files, out, gate) }
+        Command::Settled {
+            workers,
+            files: dicts,
+        } => { settled(rt, alloc, workers, dicts, files, out, gate) }
+        Command::Parse {
+            workers,
+            files: dicts,
+        } => { parse(rt, alloc, workers, dicts, files, out, gate) }
+        Command::Replay { .. }
+        | Command::Explain { .. }
+        | Command::Rows { .. }
+        | Command::Check { .. }
+        | Command::Upgrade { .. }
+        | Command::Generate { .. } => answer_plain(alloc, command, files, out),
     }
 }
 
@@ -113,6 +161,41 @@ fn answer_given<R: Threads + Wait + Sync, F: Files, S: Sink, K: Gate + Sync>(
     }
 }
 
+/// Does what the arguments ask for, where that waits for nobody, and ends the run.
+fn run_given_plain<F: Files, S: Sink>(
+    alloc: Global,
+    args: &[String],
+    files: &mut F,
+    out: &mut S,
+) -> Status
+    requires short { All (λ arg. string_len arg < 2 ^ 32) args.now }
+    requires plain { searches (command_of (map string_bytes args.now)) ≡ false }
+    ensures { let before = world (F.view files.old) (S.text out.old) (S.faults out.old) in
+        let after = world (F.view files.new) (S.text out.new) (S.faults out.new) in
+        IsRun (command_of (map string_bytes args.now)) before after result }
+{
+    let answered = answer_given_plain(alloc, read_words(args), files, out);
+    finish(alloc, out, answered)
+}
+
+/// Does what the arguments ask for, and ends the run.
+fn run_given<R: Threads + Wait + Sync, F: Files, S: Sink, K: Gate + Sync>(
+    rt: &R,
+    alloc: Global,
+    args: &[String],
+    files: &mut F,
+    out: &mut S,
+    gate: &K,
+) -> Status
+    requires { All (λ arg. string_len arg < 2 ^ 32) args.now }
+    ensures { let before = world (F.view files.old) (S.text out.old) (S.faults out.old) in
+        let after = world (F.view files.new) (S.text out.new) (S.faults out.new) in
+        IsRun (command_of (map string_bytes args.now)) before after result }
+{
+    let answered = answer_given(rt, alloc, read_words(args), files, out, gate);
+    finish(alloc, out, answered)
+}
+
 /// Does what the arguments ask for, where that waits for nobody, and returns how it ended. As [`run`], but it uses no thread.
 pub fn run_plain<F: Files, S: Sink>(
     alloc: Global,
@@ -125,15 +208,24 @@ pub fn run_plain<F: Files, S: Sink>(
     ensures run { let before = world (F.view files.old) (S.text out.old) (S.faults out.old) in
         let after = world (F.view files.new) (S.text out.new) (S.faults out.new) in
         IsRun (command_of (map string_bytes args.now)) before after result }
+    ensures explains { let command = command_of (map string_bytes args.now) in
+        Explains command (F.view files.old).held (S.text out.old) (S.text out.new) result }
+    ensures verifies { let command = command_of (map string_bytes args.now) in
+        Verifies command (F.view files.old).held (S.text out.old) (S.text out.new) result }
+    ensures lists { let command = command_of (map string_bytes args.now) in
+        Lists command (F.view files.old).held (S.text out.old) (S.text out.new) result }
+    ensures upgrades { let before = world (F.view files.old) (S.text out.old) (S.faults out.old) in
+        let after = world (F.view files.new) (S.text out.new) (S.faults out.new) in
+        Upgrades (command_of (map string_bytes args.now)) before after result }
 {
-    let answered = answer_given_plain(alloc, read_words(args), files, out);
-    finish(alloc, out, answered)
+    run_given_plain(alloc, args, files, out)
 }
 
 /// Does what the arguments ask for, and returns how it ended. An audit may wait for its workers and for the gate.
 ///
-/// What is expected of a run is a relation on the arguments and on what the files hold: a status, and a text that is added to the
-/// output. The run ends so; or a named file failed, and its line is added; or the output failed or memory ran out, and a prefix is.
+/// What is expected of a run is a relation on the arguments and on what the files hold: a status, a text that is added to the
+/// output, and for some commands a file that is written. The run ends so; or a named file failed, and its line is added; or the
+/// output failed or memory ran out, and a prefix is.
 pub fn run<R: Threads + Wait + Sync, F: Files, S: Sink, K: Gate + Sync>(
     rt: &R,
     alloc: Global,
@@ -148,7 +240,21 @@ pub fn run<R: Threads + Wait + Sync, F: Files, S: Sink, K: Gate + Sync>(
         IsRun (command_of (map string_bytes args.now)) before after result }
     ensures headline { let command = command_of (map string_bytes args.now) in
         Headline command (F.view files.old).held (S.text out.old) (S.text out.new) result }
+    ensures explains { let command = command_of (map string_bytes args.now) in
+        Explains command (F.view files.old).held (S.text out.old) (S.text out.new) result }
+    ensures verifies { let command = command_of (map string_bytes args.now) in
+        Verifies command (F.view files.old).held (S.text out.old) (S.text out.new) result }
+    ensures lists { let command = command_of (map string_bytes args.now) in
+        Lists command (F.view files.old).held (S.text out.old) (S.text out.new) result }
+    ensures upgrades { let before = world (F.view files.old) (S.text out.old) (S.faults out.old) in
+        let after = world (F.view files.new) (S.text out.new) (S.faults out.new) in
+        Upgrades (command_of (map string_bytes args.now)) before after result }
+    ensures tells { let command = command_of (map string_bytes args.now) in
+        Tells command (F.view files.old).held (S.text out.old) (S.text out.new) result }
+    ensures keeps { let command = command_of (map string_bytes args.now) in
+        Keeps command (F.view files.old).held (S.text out.old) (S.text out.new) result }
+    ensures reads { let command = command_of (map string_bytes args.now) in
+        Reads command (F.view files.old).held (S.text out.old) (S.text out.new) result }
 {
-    let answered = answer_given(rt, alloc, read_words(args), files, out, gate);
-    finish(alloc, out, answered)
+    run_given(rt, alloc, args, files, out, gate)
 }

@@ -34,11 +34,11 @@ on_lines-push k (b ∷ bs) o =
     ∙ ap (λ n. on_line k (listed_by b) ++ listed_on_lines (k + 1) bs ++ on_line n (listed_by o)) e)
 
 -- the first line stays the first
-first_stays : (before : Lines) (o : Option CertLine) → 0 < length before → line_at (before ++ o ∷ []) 1 ≡ line_at before 1
+pub first_stays : (before : Lines) (o : Option CertLine) → 0 < length before → line_at (before ++ o ∷ []) 1 ≡ line_at before 1
 first_stays [] o lt = absurd (omega arith)
 first_stays (b ∷ bs) o lt = refl
 
-first_line : (before : Lines) (o : Option CertLine) → length before ≡ 0 → line_at (before ++ o ∷ []) 1 ≡ o
+pub first_line : (before : Lines) (o : Option CertLine) → length before ≡ 0 → line_at (before ++ o ∷ []) 1 ≡ o
 first_line [] None e = refl
 first_line [] (Some l) e = refl
 first_line (b ∷ bs) o e = absurd (omega (arith, e))
@@ -82,49 +82,49 @@ no_le n k h = by (nat_le n k) refl
     by true is = absurd (let l = leb-true n k is in omega (arith, l, h))
     by false is = refl
 
-due_head : (before : Lines) (n v : ℕ) → may_follow_at before n (Some (of.Head v)) ≡ ((n == 0) && (v == 1 || v == 2))
+pub due_head : (before : Lines) (n v : ℕ) → may_follow_at before n (Some (of.Head v)) ≡ ((n == 0) && (v == 1 || v == 2))
 due_head before zero v = refl
 due_head before (suc zero) v = refl
 due_head before (suc (suc zero)) v = refl
 due_head before (suc (suc (suc n))) v = sym (ap (λ b. b && (v == 1 || v == 2)) (not_same (suc (suc (suc n))) 0 (λ e. absurd (omega (arith, e)))))
 
-due_entries : (before : Lines) (n k : ℕ) → may_follow_at before n (Some (of.Entries k)) ≡ (n == 1)
+pub due_entries : (before : Lines) (n k : ℕ) → may_follow_at before n (Some (of.Entries k)) ≡ (n == 1)
 due_entries before zero k = refl
 due_entries before (suc zero) k = refl
 due_entries before (suc (suc zero)) k = refl
 due_entries before (suc (suc (suc n))) k = sym (not_same (suc (suc (suc n))) 1 (λ e. absurd (omega (arith, e))))
 
-due_states : (before : Lines) (n k : ℕ) → may_follow_at before n (Some (of.States k)) ≡ (n == 2)
+pub due_states : (before : Lines) (n k : ℕ) → may_follow_at before n (Some (of.States k)) ≡ (n == 2)
 due_states before zero k = refl
 due_states before (suc zero) k = refl
 due_states before (suc (suc zero)) k = refl
 due_states before (suc (suc (suc n))) k = sym (not_same (suc (suc (suc n))) 2 (λ e. absurd (omega (arith, e))))
 
-due_distance : (before : Lines) (n s d : ℕ) → may_follow_at before n (Some (of.Distance s d)) ≡ (nat_le 3 n && is_version (line_at before 1) 1)
+pub due_distance : (before : Lines) (n s d : ℕ) → may_follow_at before n (Some (of.Distance s d)) ≡ (nat_le 3 n && is_version (line_at before 1) 1)
 due_distance before zero s d = refl
 due_distance before (suc zero) s d = refl
 due_distance before (suc (suc zero)) s d = refl
 due_distance before (suc (suc (suc n))) s d = sym (ap (λ b. b && is_version (line_at before 1) 1) (le-leb 3 (suc (suc (suc n))) (omega arith)))
 
-due_run : (before : Lines) (n s t d : ℕ) → may_follow_at before n (Some (of.Run s t d)) ≡ (nat_le 3 n && (is_version (line_at before 1) 2 && nat_le s t))
+pub due_run : (before : Lines) (n s t d : ℕ) → may_follow_at before n (Some (of.Run s t d)) ≡ (nat_le 3 n && (is_version (line_at before 1) 2 && nat_le s t))
 due_run before zero s t d = refl
 due_run before (suc zero) s t d = refl
 due_run before (suc (suc zero)) s t d = refl
 due_run before (suc (suc (suc n))) s t d = sym (ap (λ b. b && (is_version (line_at before 1) 2 && nat_le s t)) (le-leb 3 (suc (suc (suc n))) (omega arith)))
 
-due_conflicts : (before : Lines) (n k : ℕ) → may_follow_at before n (Some (of.Conflicts k)) ≡ nat_le 3 n
+pub due_conflicts : (before : Lines) (n k : ℕ) → may_follow_at before n (Some (of.Conflicts k)) ≡ nat_le 3 n
 due_conflicts before zero k = refl
 due_conflicts before (suc zero) k = refl
 due_conflicts before (suc (suc zero)) k = refl
 due_conflicts before (suc (suc (suc n))) k = sym (le-leb 3 (suc (suc (suc n))) (omega arith))
 
-due_row : (before : Lines) (n : ℕ) → (r : _) → may_follow_at before n (Some (of.Row r)) ≡ false
+pub due_row : (before : Lines) (n : ℕ) → (r : _) → may_follow_at before n (Some (of.Row r)) ≡ false
 due_row before zero r = refl
 due_row before (suc zero) r = refl
 due_row before (suc (suc zero)) r = refl
 due_row before (suc (suc (suc n))) r = refl
 
-due_end : (before : Lines) (n : ℕ) → may_follow_at before n (Some of.End) ≡ false
+pub due_end : (before : Lines) (n : ℕ) → may_follow_at before n (Some of.End) ≡ false
 due_end before zero = refl
 due_end before (suc zero) = refl
 due_end before (suc (suc zero)) = refl
@@ -195,7 +195,7 @@ end_answers closure old new failure e = no_answers closure old new of.End failur
 version_is : (old : Upper) (before : Lines) (k : ℕ) → Represents old before → 3 ≤ old.lines → is_version (line_at before 1) k ≡ (old.version == k)
 version_is old before k is le = ap (λ o. is_version o k) (is.version (omega (arith, le)))
 
-under : (a b c : Bool) → (a ≡ true → b ≡ c) → (a && b) ≡ (a && c)
+pub under : (a b c : Bool) → (a ≡ true → b ≡ c) → (a && b) ≡ (a && c)
 under true b c h = h refl
 under false b c h = refl
 

@@ -13,7 +13,7 @@ use Rattle.std.specs.Io.KnownBytes.{prepend_known}
 use Rattle.certificate_laws.proofs.LimitLemmas.{valid_at, rejected_invalid}
 use Rattle.cert_check.specs.inside.Founds.{IsFoundListing, IsListingFault, AtRows}
 use Rattle.cert_check.specs.inside.Left.{AreLeft}
-use Rattle.cert_check.specs.inside.Reading.{WhereTold, IsUntold}
+use Rattle.cert_check.specs.Reading.{WhereTold, IsUntold}
 use Rattle.cert_check.specs.inside.Uppers.{IsUpperRead, Represents}
 use Rattle.certificate.specs.CertReading.{read_lines}
 use Rattle.certificate.specs.CertTexts.{Listed}
@@ -114,7 +114,7 @@ cause_of stack (Err x) (Some h) name e = record { outcome = e; invalid = invalid
 
 -- ---- the file
 
-told_of : (P : List ℕ → Type 0) (held : Option Held) (name : List ℕ) (reader : ReaderView) (mid : FilesView) (limit : ℕ) → reader ≡ new_reader limit → mid.rest ≡ option_map (λ h. h name) held → WhereTold (ahead reader mid) P → IfSome held (λ h. P (h name))
+pub told_of : (P : List ℕ → Type 0) (held : Option Held) (name : List ℕ) (reader : ReaderView) (mid : FilesView) (limit : ℕ) → reader ≡ new_reader limit → mid.rest ≡ option_map (λ h. h name) held → WhereTold (ahead reader mid) P → IfSome held (λ h. P (h name))
 told_of P None name reader mid limit begun e f = tt
 told_of P (Some h) name reader mid limit begun e f = f (h name) (ap (λ (r : ReaderView). prepend_known r.left mid.rest) begun ∙ ap (prepend_known []) e)
 

@@ -6,7 +6,7 @@ use Rattle.std.proofs.lemmas.List.{length_push}
 use Rattle.std.proofs.lemmas.List.Sums.{sum_by-append}
 use Rattle.std.proofs.lemmas.Bool.{le-leb, leb-true}
 use Rattle.certificate.specs.declared.lines.CertLine.{CertLine}
-use Rattle.cert_check.specs.inside.Reading.{IsReadTo, BeginsWithout}
+use Rattle.cert_check.specs.Reading.{IsReadTo, BeginsWithout}
 use Rattle.certificate.specs.CertLines.{line_text, fits}
 use Rattle.certificate.specs.CertReading.{read_lines}
 use Rattle.certificate.specs.Readers.{IsLineText, BeginsBad, BeginsLong}

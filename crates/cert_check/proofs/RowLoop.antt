@@ -10,7 +10,7 @@ use Rattle.certificate.specs.declared.lines.CertLine.TheVariants as of
 use Rattle.cert_check.specs.Verdicts.{IsFaultOf}
 use Rattle.cert_check.specs.inside.Founds.{AreFound, AtRows, HasNoFarRow}
 use Rattle.cert_check.specs.inside.Left.{AreLeft}
-use Rattle.cert_check.specs.inside.Reading.{IsReadTo, BeginsWithout}
+use Rattle.cert_check.specs.Reading.{IsReadTo, BeginsWithout}
 use Rattle.cert_check.specs.inside.RowAnswers.{IsRowTest}
 use Rattle.certificate.specs.CertLines.{line_text, fits}
 use Rattle.certificate.specs.CertReading.{read_lines}
@@ -35,7 +35,7 @@ use Rattle.cert_check.proofs.UpperLoop.{next_rest, if_some, takes_on, takes_none
 use Rattle.cert_check.proofs.AnswerLemmas.{no_le}
 
 -- the line behind those that were read
-line_next : (bytes : List ℕ) (given n : ℕ) (before : Lines) (rest : List ℕ) → IsReadTo certificate_limit given bytes before rest → length before ≡ n → line_at (read_lines bytes) (n + 1) ≡ first_of (read_lines rest)
+pub line_next : (bytes : List ℕ) (given n : ℕ) (before : Lines) (rest : List ℕ) → IsReadTo certificate_limit given bytes before rest → length before ≡ n → line_at (read_lines bytes) (n + 1) ≡ first_of (read_lines rest)
 line_next bytes given n before rest read count = ap (λ k. line_at (read_lines bytes) (k + 1)) (sym count) ∙ (ap (λ ls. line_at ls (length before + 1)) read.split ∙ line_after before (read_lines rest))
 
 -- what is known of the line of a row
@@ -123,7 +123,7 @@ row_wrong closure all bytes more n k p ps f fs l row now h is answer wrong_is te
     ∙ (stops_failing (readable_lines certificate_limit bytes) (announced (line_at lines (conflicts_line lines))) c2 (row_checks closure all lines (n + 1) ps ++ end_checks lines (n + suc (length ps))) wrong (reached_row bytes more n h.before l h.next c2 h.read h.count refl)
     ∙ ap (λ k. rejected k why.Row) (sym at))
 
-no_row : (l : CertLine) → ((r : Row) → l ≡ of.Row r → ⊥) → is_row_line (Some l) ≡ false
+pub no_row : (l : CertLine) → ((r : Row) → l ≡ of.Row r → ⊥) → is_row_line (Some l) ≡ false
 no_row (of.Head v) h = refl
 no_row (of.Entries k) h = refl
 no_row (of.States k) h = refl
@@ -167,7 +167,7 @@ pub row_test : (entries : List (List ℕ)) (flags : List Bool) (all : List Liste
 row_test entries flags all bytes more n p ps f fs l row now answer h test =
     test all h.near (subst (λ q. is_least_of f.distance (hit_distances (closure_of entries flags) all q) ≡ true) (sym (pair_of p f.entry f.place h.found.0 h.found.1)) h.found.2)
 
-end_not : (l : CertLine) → (l ≡ of.End → ⊥) → is_end_line (Some l) ≡ false
+pub end_not : (l : CertLine) → (l ≡ of.End → ⊥) → is_end_line (Some l) ≡ false
 end_not (of.Head v) h = refl
 end_not (of.Entries k) h = refl
 end_not (of.States k) h = refl
@@ -236,7 +236,7 @@ after_end closure bytes more n l now h is =
     let c1 = at_line (n + 1) why.Form (is_end_line (line_at (read_lines bytes) (n + 1))) in
     left_past closure bytes (c1 ∷ []) (at_line (n + 2) why.Rest (nat_le (length (read_lines bytes)) (n + 1)) ∷ []) (ap is_end_line (h.line_is ∙ ap (λ k. Some k) is), tt) (reached_row bytes more n h.before l h.next c1 h.read h.count refl, tt) h.left
 
-long_lines : (bytes : List ℕ) (more n : ℕ) (before : Lines) (l : CertLine) (next : List ℕ) → IsReadTo certificate_limit more bytes (before ++ Some l ∷ []) next → length before ≡ n → length (read_lines bytes) ≡ n + 1 + length (read_lines next)
+pub long_lines : (bytes : List ℕ) (more n : ℕ) (before : Lines) (l : CertLine) (next : List ℕ) → IsReadTo certificate_limit more bytes (before ++ Some l ∷ []) next → length before ≡ n → length (read_lines bytes) ≡ n + 1 + length (read_lines next)
 long_lines bytes more n before l next read count =
     let a = ap length read.split in let b = length-append (before ++ Some l ∷ []) (read_lines next) in let d = length_push before (Some l) in omega (arith, a, b, d, count)
 
@@ -296,7 +296,7 @@ pub record IsReadingRows (closure : Closure) (first reader : ReaderView) (old no
 pub rows_begin : (closure : Closure) (first : ReaderView) (old : FilesView) (founds : List Found) → first.limit ≡ 4294967296 → IsReadingRows closure first first old old founds (drop 0 founds)
 rows_begin closure first old founds is = record { takes = takes_none old; limit = is; told = λ all bytes at. at }
 
-drop_read : (xs : List Found) (i : ℕ) (x : Found) → i < length xs → x ≡ get_or xs i x → drop i xs ≡ x ∷ drop (i + 1) xs
+pub drop_read : (xs : List Found) (i : ℕ) (x : Found) → i < length xs → x ≡ get_or xs i x → drop i xs ≡ x ∷ drop (i + 1) xs
 drop_read [] i x lt is = absurd (omega arith)
 drop_read (y ∷ ys) zero x lt is = ap (λ z. z ∷ ys) (sym is)
 drop_read (y ∷ ys) (suc i) x lt is = let more : suc i + 1 ≡ suc (i + 1) = omega arith in drop_read ys i x (omega arith) is ∙ ap (λ k. x ∷ drop k (y ∷ ys)) (sym more)

@@ -9,7 +9,7 @@ use Rattle.certificate.specs.declared.lines.CertLine.{CertLine}
 use Rattle.certificate.specs.declared.lines.CertLine.TheVariants as of
 use Rattle.cert_check.specs.Verdicts.{IsFaultOf}
 use Rattle.cert_check.specs.inside.Left.{FailsWith, AreLeft}
-use Rattle.cert_check.specs.inside.Reading.{IsReadTo}
+use Rattle.cert_check.specs.Reading.{IsReadTo}
 use Rattle.cert_check.specs.inside.Uppers.{line_failure, Represents, IsUpperRead}
 use Rattle.certificate.specs.CertReading.{read_lines}
 use Rattle.certificate.specs.Readers.{certificate_limit}

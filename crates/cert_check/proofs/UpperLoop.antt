@@ -10,7 +10,7 @@ use Rattle.certificate.specs.declared.lines.CertLine.{CertLine}
 use Rattle.certificate.specs.declared.lines.CertLine.TheVariants as of
 use Rattle.cert_check.specs.Verdicts.{IsFaultOf}
 use Rattle.cert_check.specs.inside.Places.{places_from, ends_listed}
-use Rattle.cert_check.specs.inside.Reading.{IsReadTo, BeginsWithout}
+use Rattle.cert_check.specs.Reading.{IsReadTo, BeginsWithout}
 use Rattle.cert_check.specs.inside.Uppers.{Represents, IsSound, IsUpperRead, TakesLine}
 use Rattle.certificate.specs.CertLines.{line_text, fits}
 use Rattle.certificate.specs.CertReading.{read_lines}

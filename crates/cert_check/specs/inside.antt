@@ -1,5 +1,4 @@
 -- What only private functions, invariants and proofs cite.
-pub mod Reading
 pub mod Left
 pub mod Places
 pub mod Runs

@@ -6,7 +6,7 @@ ghost use Rattle.certificate.specs.Readers.{IsOpened, OnlyTakes, OpensFile, ahea
 ghost use Rattle.certificate_laws.specs.Checks.{accepted};
 ghost use Rattle.certificate_laws.specs.Validity.{check_outcome};
 ghost use Rattle.cert_check.specs.Verdicts.{closure_at, numbering_at, is_check_failed, IsAccepted, IsCheckCause, IsFaultOf};
-ghost use Rattle.cert_check.specs.inside.Reading.{IsUntold, WhereTold};
+ghost use Rattle.cert_check.specs.Reading.{IsUntold, WhereTold};
 
 use crate::faults::{CheckDone, CheckFault};
 use crate::listing::check_listing;

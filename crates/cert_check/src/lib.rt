@@ -22,6 +22,7 @@ mod upper;
 
 pub use checking::check;
 pub use faults::{CheckDone, CheckFault};
+pub use reading::required_line;
 
 #[cfg(test)]
 mod tests;

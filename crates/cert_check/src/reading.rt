@@ -3,7 +3,7 @@
 ghost use Rattle.std.specs.Prelude.{◌≡◌, IfOk, IfErr, IfSome};
 ghost use Rattle.certificate.specs.Readers.{GivesLine, OnlyTakes, ahead, room};
 ghost use Rattle.cert_check.specs.Verdicts.{is_check_failed};
-ghost use Rattle.cert_check.specs.inside.Reading.{BeginsWithout};
+ghost use Rattle.cert_check.specs.Reading.{BeginsWithout};
 
 use crate::faults::CheckFault;
 use certificate::{CertFault, CertLine, CertReader};
@@ -11,7 +11,7 @@ use outside::Files;
 use report::Why;
 
 /// The next line. At the end of the file its form is bad.
-pub(crate) fn required_line<F: Files>(
+pub fn required_line<F: Files>(
     files: &mut F,
     reader: &mut CertReader,
 ) -> Result<CertLine, CheckFault>

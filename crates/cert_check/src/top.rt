@@ -5,7 +5,7 @@ ghost use Rattle.steno_rules.specs.Outlines.{AreEntries};
 ghost use Rattle.certificate.specs.Readers.{OnlyTakes, ahead, certificate_limit, new_reader};
 ghost use Rattle.certificate_laws.specs.Validity.{check_outcome};
 ghost use Rattle.cert_check.specs.Verdicts.{closure_at, numbering_at, is_check_failed, IsFaultOf};
-ghost use Rattle.cert_check.specs.inside.Reading.{WhereTold};
+ghost use Rattle.cert_check.specs.Reading.{WhereTold};
 ghost use Rattle.cert_check.specs.inside.Uppers.{IsSound, IsUpperRead};
 
 use crate::faults::CheckFault;

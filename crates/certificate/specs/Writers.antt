@@ -6,7 +6,7 @@
 --     BeginsFile name result old new         what beginning to write does to the files
 --     OnlyPuts failed old new                what writing a line does to the files
 --     EndsFile failed old new                what ending does to the files
-use Rattle.std.specs.Prelude.{ℕ, ◌+◌, ◌≡◌, ◌<◌, ◌≤◌, List, [], Bool, true, length, None, Some, Result, option_map, if◌then◌else◌, is_ok, IfSome, ⊤}
+use Rattle.std.specs.Prelude.{ℕ, ◌+◌, ◌≡◌, ◌<◌, ◌≤◌, ◌⊎◌, List, [], Bool, true, length, None, Some, Result, option_map, if◌then◌else◌, is_ok, IfSome, ⊤}
 use Rattle.outside.specs.Faults.{Rose, Steady}
 use Rattle.outside.specs.Files.{Both, Extends, ExtendsByPrefix, FilesView}
 use Rattle.outside.specs.declared.fault.Way.TheVariants.{Writing}
@@ -37,11 +37,11 @@ abbrev pub AddsPrefix : List ℕ → FilesView → FilesView → Type 0
 AddsPrefix bytes old new = IfSome old.writing (λ name. ExtendsByPrefix name bytes old.held new.held)
 
 -- why a line was refused, where so many bytes were put before: it would pass the limit, and nothing of it was written; or it
--- is within the limit
+-- is within the limit; memory may also run out before that is known, and then nothing of it was written
 abbrev pub IsWriteFault : CertFault → ℕ → ℕ → FilesView → FilesView → Type 0
 IsWriteFault fault.TooLong put len old new = (certificate_limit < put + len) × (new.held ≡ old.held)
 IsWriteFault fault.Failed put len old new = put + len ≤ certificate_limit
-IsWriteFault fault.Memory put len old new = ⊤
+IsWriteFault fault.Memory put len old new = (put + len ≤ certificate_limit) ⊎ (new.held ≡ old.held)
 IsWriteFault (fault.Bad line) put len old new = ⊥
 
 -- a call that begins to write a file: a fault is on writing it, and after a refusal no file is being written

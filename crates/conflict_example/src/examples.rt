@@ -14,7 +14,7 @@ use stroke::Stroke;
 
 /// What is used again from one example to the next.
 #[derive(Drop)]
-pub(crate) struct Scratch {
+pub struct Scratch {
     /// The numbers of a walk, the last one first.
     path: Vec<u32>,
     /// The strokes of the word that is open.
@@ -23,7 +23,7 @@ pub(crate) struct Scratch {
 
 impl Scratch {
     /// Nothing is kept yet.
-    pub(crate) fn new(alloc: Global) -> Scratch {
+    pub fn new(alloc: Global) -> Scratch {
         Scratch {
             path: Vec::new(alloc),
             strokes: Vec::new(alloc),
@@ -117,7 +117,7 @@ fn spell(
 }
 
 /// The words of the walk of so many moves to a number, by their entries' numbers.
-pub(crate) fn example(
+pub fn example(
     alloc: Global,
     numbering: &Numbering<'_>,
     stack: &Stack,

@@ -14,4 +14,5 @@ mod rows;
 #[cfg(test)]
 mod tests;
 
+pub use examples::{Scratch, example};
 pub use rows::conflicts;

@@ -6,3 +6,6 @@ pub mod MoveLemmas
 pub mod EndingLemmas
 pub mod HalvesLemmas
 pub mod WalkLemmas
+pub mod BarLemmas
+pub mod FoundOnce
+pub mod Limits

@@ -3,7 +3,7 @@ use Rattle.std.proofs.Common.{◌≡◌, ◌≢◌, ℕ, zero, suc, ◌+◌, ◌
 use Rattle.std.proofs.lemmas.List.Elements.{All-cons}
 use Rattle.graph_rules.specs.Graphs.{AreSettled, IsBest, most_numbers, unreached}
 use Rattle.steno_rules.specs.Outlines.{AreWords, entry_number, is_word}
-use Rattle.steno_rules.specs.Conflicts.{AreWordNumbers, IsWordNumber, outlines_of}
+use Rattle.steno_rules.specs.Conflicts.{AreEntryNumbers, AreWordNumbers, IsWordNumber, outlines_of}
 use Rattle.steno_rules.proofs.NodeLemmas.{nodes-Contains}
 use Rattle.steno_rules.proofs.Numbers.{entry_number-Some, number_test}
 use Rattle.steno_rules.proofs.Words.{word_is_entry}
@@ -16,7 +16,7 @@ use Rattle.reading_laws.specs.Readings.{AllWords, IsLeastTwo}
 use Rattle.reading_laws.proofs.ChosenReadingLemmas.{IsLeastTwo-word, below_of_best, chosen-shortest, move_back, start_or_end}
 use Rattle.reading_laws.proofs.ForkLemmas.{IsLeastTwo-end}
 use Rattle.reading_laws.proofs.ForkNumberLemmas.{IsLeastEnd-number, fork_at-end, fork_at-number, start-number}
-use Rattle.free_parse.specs.FoundReadings.{AreChosenTwo, AreFewest}
+use Rattle.free_parse.specs.FoundReadings.{AreBothNumbers, AreChosenTwo, AreFewest, AreNumbersOfWords}
 use Rattle.free_parse.specs.FreeGraphs.{FreeGraphView}
 use Rattle.free_parse.specs.declared.fork.NodeFork.{NodeFork}
 use Rattle.free_parse.specs.declared.halves.NumberedHalves.{NumberedHalves}
@@ -130,6 +130,18 @@ found_words entries words (w ∷ ws) are all =
       ap (outlines_of entries) is ∙ ap₂ (λ x l. x ∷ l) at.1 rest.1,
     )
 
+-- And the numbers are those of the words.
+pub found_are : (entries words ws : List (List ℕ)) → AreWords entries words → AllWords words ws → AreNumbersOfWords entries (found_numbers entries ws) ws
+found_are entries words [] are all = refl
+found_are entries words (w ∷ ws) are all =
+    let e = number_of_word entries words w are all.0 in
+    let is : found_numbers entries (w ∷ ws) ≡ e.0 ∷ found_numbers entries ws = ap (λ o. some_listed o ++ found_numbers entries ws) e.1 in
+    ap (map Some) is ∙ ap₂ (λ o l. o ∷ l) (sym e.1) (found_are entries words ws are all.1)
+
+-- words are entries
+numbers_of_words : (entries words : List (List ℕ)) (numbers : List ℕ) → AreWordNumbers entries words numbers → AreEntryNumbers entries numbers
+numbers_of_words entries words numbers are = λ i d below. (are i d below).0
+
 -- ---- the result
 
 -- The end's word, where it is reached.
@@ -163,6 +175,7 @@ chosen_is g table n k is = sym (ap (chosen_halves g.entries g.words table) is)
 pub record AreRead (g : FreeGraphView) (table : List ℕ) (n : ℕ) (halves : NumberedHalves) : Type 0 where
   pub fewest : AreFewest g.entries g.words (record { strokes = n; first = halves.first.items; second = halves.second.items })
   pub chosen : AreChosenTwo g.entries g.words table (record { strokes = n; first = halves.first.items; second = halves.second.items })
+  pub numbers : AreBothNumbers g.entries (record { strokes = n; first = halves.first.items; second = halves.second.items })
 
 pub read_are : (g : FreeGraphView) (table : List ℕ) (n k : ℕ) (halves : NumberedHalves) → IsReachedEnd g table n k →
     AreNumbersOf g.entries (ended_after g.words (map (open_fork g.entries g.words) (trail table k (source_of (slice_index table (end_number g.entries)))))) halves → AreRead g table n halves
@@ -174,11 +187,29 @@ read_are g table n k halves h numbers =
     let second = found_words g.entries g.words two.second h.walk.are_words shortest.are.second in
     let first_is : outlines_of g.entries halves.first.items ≡ two.first = ap (outlines_of g.entries) made.first_are ∙ first.1 in
     let second_is : outlines_of g.entries halves.second.items ≡ two.second = ap (outlines_of g.entries) made.second_are ∙ second.1 in
+    let first_words : AreWordNumbers g.entries g.words halves.first.items = subst (AreWordNumbers g.entries g.words) (sym made.first_are) first.0 in
+    let second_words : AreWordNumbers g.entries g.words halves.second.items = subst (AreWordNumbers g.entries g.words) (sym made.second_are) second.0 in
     record {
       fewest = record {
-        first_words = subst (AreWordNumbers g.entries g.words) (sym made.first_are) first.0;
-        second_words = subst (AreWordNumbers g.entries g.words) (sym made.second_are) second.0;
+        first_words = first_words;
+        second_words = second_words;
         shortest = subst (λ xs. AreShortest g.words xs (outlines_of g.entries halves.second.items) n) (sym first_is) (subst (λ ys. AreShortest g.words two.first ys n) (sym second_is) shortest);
       };
-      chosen = record { first_is = first_is; second_is = second_is };
+      chosen = record {
+        first_are = ap (map Some) made.first_are ∙ found_are g.entries g.words two.first h.walk.are_words shortest.are.first;
+        second_are = ap (map Some) made.second_are ∙ found_are g.entries g.words two.second h.walk.are_words shortest.are.second;
+      };
+      numbers = record {
+        first = numbers_of_words g.entries g.words halves.first.items first_words;
+        second = numbers_of_words g.entries g.words halves.second.items second_words;
+      };
     }
+
+-- The walk back from the end's word, and the readings of its forks.
+pub word_read : (g : FreeGraphView) (table : List ℕ) (word : ℕ) (path : List ℕ) (halves : NumberedHalves) → IsReachedEnd g table (word / 4294967296) (word / 4294967296 - 1) →
+    word ≡ slice_index table (end_number g.entries) → path ≡ trail table (word / 4294967296 - 1) (source_of word) →
+    AreNumbersOf g.entries (ended_after g.words (map (open_fork g.entries g.words) path)) halves → AreRead g table (word / 4294967296) halves
+word_read g table word path halves h is back numbers =
+    let n : ℕ = word / 4294967296 in
+    let same = back ∙ ap (λ w. trail table (n - 1) (source_of w)) is in
+    read_are g table n (n - 1) halves h (subst (λ l. AreNumbersOf g.entries (ended_after g.words (map (open_fork g.entries g.words) l)) halves) same numbers)

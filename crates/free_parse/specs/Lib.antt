@@ -1,4 +1,5 @@
 pub mod FreeGraphs
 pub mod Cursors
 pub mod FoundReadings
+pub mod ParseTexts
 pub mod inside

@@ -1,113 +1,215 @@
-//! The worked examples, and small sets of words whose fewest strokes were counted by listing all readings.
+//! Small sets of words by their whole texts, and random ones, whose fewest strokes are counted by trying all short lists of
+//! strokes.
 ghost use Rattle.std.specs.Prelude.{◌≡◌};
 ghost use Rattle.steno_rules.specs.WordSets.{IsWordSet};
 
-use crate::{FreeGraph, readings};
+use crate::{FreeGraph, readings, write_parse};
 use closure_state::WordSet;
+use dict_json::read_dictionary;
+use dict_stack::Stack;
 use outline_trie::Trie;
+use outside::PlainSink;
 use round_core::search_plain;
 use std::alloc::Global;
 use std::process::Abort;
-use stroke::{Outline, Stroke, are_entries};
 
-/// The outline of these letters, each of which is a stroke of one key; a dash is none.
-fn outline_of(rt: &impl Abort, alloc: Global, letters: &str) -> Outline {
-    let mut outline = Outline::new(alloc);
-    for &letter in letters.as_bytes() {
-        let code = match letter {
-            b'a' => 2,
-            b'b' => 4,
-            b'c' => 8,
-            b'd' => 16,
-            _ => 32,
-        };
-        if letter != b'-' && outline.strokes().len() < Outline::MAX {
-            outline
-                .push(Stroke::new(code).expect(rt, "a code"))
-                .expect(rt, "memory");
+/// Adds an entry, each of whose strokes is one letter.
+fn push_entry(rt: &impl Abort, json: &mut String, entry: &str) {
+    json.push_str(if json.len() > 1 { ",\"" } else { "\"" })
+        .expect(rt, "memory");
+    for (i, letter) in entry.chars().enumerate() {
+        if i > 0 {
+            json.push('/').expect(rt, "memory");
+        }
+        json.push(letter).expect(rt, "memory");
+    }
+    json.push_str("\":\"\"").expect(rt, "memory");
+}
+
+/// The dictionary of these entries.
+fn dictionary_of(rt: &impl Abort, alloc: Global, entries: &str) -> String {
+    let mut json = String::new(alloc);
+    json.push('{').expect(rt, "memory");
+    for entry in entries.split(' ') {
+        if !entry.is_empty() {
+            push_entry(rt, &mut json, entry);
         }
     }
-    outline
+    json.push('}').expect(rt, "memory");
+    json
 }
 
-/// The trie of these entries and the words among them by their flags.
-fn made(rt: &impl Abort, alloc: Global, outlines: &[Outline], flags: &[bool]) -> (Trie, WordSet)
-    ensures { IsWordSet result.0 result.1 }
-{
-    assert!(rt; outlines.len() < 1 << 20 && are_entries(outlines));
-    assert!(rt; flags.len() == outlines.len());
-    let trie = Trie::new(alloc, outlines).expect(rt, "a trie");
-    let words = WordSet::new(alloc, &trie, flags).expect(rt, "memory");
-    (trie, words)
-}
-
-/// Adds a word and numbers to a text.
-fn push_numbers(rt: &impl Abort, alloc: Global, head: &str, numbers: &[u32], text: &mut String) {
-    text.push_str(head).expect(rt, "memory");
-    for number in numbers {
-        let word = format!(in alloc; " {number}");
-        text.push_str(&word.expect(rt, "memory"))
-            .expect(rt, "memory");
+/// The stack of these words and of other entries.
+fn stack_of(rt: &impl Abort, alloc: Global, words: &str, others: &str) -> Stack {
+    let mut dictionaries = Vec::new(alloc);
+    let mut word_files = Vec::new(alloc);
+    for (entries, are_words) in [(words, true), (others, false)] {
+        let json = dictionary_of(rt, alloc, entries);
+        assert!(rt; json.len() < 1 << 32);
+        let dictionary = read_dictionary(alloc, json.as_bytes()).expect(rt, "a dictionary");
+        dictionaries.push(dictionary).expect(rt, "memory");
+        word_files.push(are_words).expect(rt, "memory");
     }
+    assert!(rt; dictionaries.len() <= 16 && word_files.len() == dictionaries.len());
+    Stack::new(alloc, dictionaries, word_files).expect(rt, "a stack")
 }
 
-/// What is found over a trie and its words: how many numbers are reached in how many rounds, and the readings.
-fn found_over(rt: &impl Abort, alloc: Global, trie: &Trie, words: &WordSet) -> String
-    requires { IsWordSet trie.now words.now }
-{
-    assert!(rt; FreeGraph::fits(trie));
-    let graph = FreeGraph::new(alloc, trie, words).expect(rt, "memory");
-    let settled = search_plain(alloc, &graph).expect(rt, "memory");
+/// How many numbers are reached.
+fn reached(words: &[u64]) -> u32 {
     let mut states: u32 = 0;
-    for &word in settled.words() {
+    for &word in words {
         if word != u64::MAX {
             states = states.saturating_add(1);
         }
     }
-    let mut text = format!(in alloc; "{states} {}", settled.rounds()).expect(rt, "memory");
-    if let Some(two) = readings(alloc, &graph, settled.words()).expect(rt, "memory") {
-        push_numbers(rt, alloc, ": strokes", &[two.strokes()], &mut text);
-        push_numbers(rt, alloc, " first", two.first(), &mut text);
-        push_numbers(rt, alloc, " second", two.second(), &mut text);
-    }
-    text
+    states
 }
 
-/// The same of these entries, of which those without a dash are words.
-fn found(rt: &impl Abort, alloc: Global, entries: &str) -> String {
-    let mut outlines = Vec::new(alloc);
-    let mut flags = Vec::new(alloc);
-    for entry in entries.split(' ') {
-        if !entry.is_empty() {
-            let outline = outline_of(rt, alloc, entry);
-            outlines.push(outline).expect(rt, "memory");
-            flags.push(!entry.starts_with('-')).expect(rt, "memory");
-        }
-    }
-    let (trie, words) = made(rt, alloc, &outlines, &flags);
-    found_over(rt, alloc, &trie, &words)
+/// How many strokes the two readings have, 0 where there are none, and the text.
+fn parsed_over(
+    rt: &impl Abort,
+    alloc: Global,
+    stack: &Stack,
+    trie: &Trie,
+    words: &WordSet,
+) -> (u32, PlainSink)
+    requires words { IsWordSet trie.now words.now }
+    requires trie { trie.now ≡ stack.now.outlines }
+{
+    assert!(rt; FreeGraph::fits(trie));
+    let graph = FreeGraph::new(alloc, trie, words).expect(rt, "memory");
+    let settled = search_plain(alloc, &graph).expect(rt, "memory");
+    let states = reached(settled.words());
+    let rounds = settled.rounds();
+    let mut sink = PlainSink::new(alloc);
+    let two = readings(alloc, &graph, settled.words()).expect(rt, "memory");
+    write_parse(alloc, &mut sink, stack, states, rounds, two.as_ref()).expect(rt, "memory");
+    let strokes = match &two {
+        Some(two) => two.strokes(),
+        None => 0,
+    };
+    (strokes, sink)
+}
+
+/// The same of a stack.
+fn parsed(rt: &impl Abort, alloc: Global, words: &str, others: &str) -> (u32, PlainSink) {
+    let stack = stack_of(rt, alloc, words, others);
+    let trie = Trie::new(alloc, stack.outlines()).expect(rt, "a trie");
+    let set = WordSet::new(alloc, &trie, stack.words()).expect(rt, "memory");
+    parsed_over(rt, alloc, &stack, &trie, &set)
 }
 
 #[test]
-fn examples(rt: HostRuntime) {
+fn texts(rt: HostRuntime) {
     let cases = [
-        // Nothing, and the three worked dictionaries.
-        ("", "1 1"),
-        ("a ab bcd de e", "7 3"),
-        ("a abc b c", "6 4: strokes 3 first 0 2 3 second 1"),
+        ("", "", "entries 0\nstates 1\nrounds 1\nfree yes\n"),
+        (
+            "S ST TKP PW W",
+            "",
+            "entries 5\nstates 7\nrounds 3\nfree yes\n",
+        ),
+        (
+            "S STK T K",
+            "",
+            "entries 4\nstates 6\nrounds 4\nfree no strokes 3\nfirst S | T | K\nsecond S/T/K\n",
+        ),
         // An entry that is no word isn't read.
-        ("a abc -b c", "4 3"),
+        ("S STK K", "T", "entries 4\nstates 4\nrounds 3\nfree yes\n"),
         // Readings of more strokes than any word has, the first one not always by the lesser numbers.
-        ("ab abb ba bab", "12 6: strokes 5 first 0 3 second 1 0"),
-        ("a aba bab", "12 8: strokes 7 first 0 2 1 second 1 2 0"),
-        ("aab abaa b baa", "11 5: strokes 4 first 2 0 second 3 2"),
-        ("aa aab ba bb", "8 6"),
+        (
+            "ST STT TS TST",
+            "",
+            "entries 4\nstates 12\nrounds 6\nfree no strokes 5\nfirst S/T | T/S/T\nsecond S/T/T | S/T\n",
+        ),
+        (
+            "SS SST TS TT",
+            "",
+            "entries 4\nstates 8\nrounds 6\nfree yes\n",
+        ),
     ];
-    for (entries, expected) in cases {
-        assert_eq!(rt;
-            found(&rt, rt.alloc(), entries).as_str(),
-            expected,
-            "of {entries}"
-        );
+    for (words, others, text) in cases {
+        let (_, sink) = parsed(&rt, rt.alloc(), words, others);
+        assert!(rt; sink.text() == text.as_bytes(), "of {words}");
+    }
+}
+
+/// How many lists of these words have these strokes, where so many have the first ones: of none, of one and so on.
+fn lists_behind(words: &str, strokes: &[u8], lists: &[u32]) -> u32 {
+    let mut ways: u32 = 0;
+    for word in words.split(' ') {
+        if !word.is_empty() && strokes.ends_with(word.as_bytes()) {
+            let before = lists.get(strokes.len() - word.len()).copied().unwrap_or(0);
+            ways = ways.saturating_add(before);
+        }
+    }
+    ways
+}
+
+/// How many lists of these words have these strokes.
+fn lists_of(rt: &impl Abort, alloc: Global, words: &str, strokes: &[u8]) -> u32 {
+    let mut lists = Vec::new(alloc);
+    lists.push(1_u32).expect(rt, "memory");
+    for end in 1..=strokes.len() {
+        let ways = lists_behind(words, &strokes[..end], &lists);
+        lists.push(ways).expect(rt, "memory");
+    }
+    lists.last().copied().unwrap_or(0)
+}
+
+/// So many strokes, S or T by the bits of a number.
+fn strokes_by(rt: &impl Abort, alloc: Global, bits: u32, len: u32) -> Vec<u8> {
+    let mut strokes = Vec::new(alloc);
+    let mut rest = bits;
+    for _place in 0..len {
+        let letter = if rest % 2 == 0 { b'S' } else { b'T' };
+        strokes.push(letter).expect(rt, "memory");
+        rest /= 2;
+    }
+    strokes
+}
+
+/// Whether some strokes, so many of them, can be read as these words in two ways.
+fn are_read_twice(rt: &impl Abort, alloc: Global, words: &str, len: u32) -> bool {
+    for bits in 0..128 {
+        let strokes = strokes_by(rt, alloc, bits, len);
+        if lists_of(rt, alloc, words, &strokes) > 1 {
+            return true;
+        }
+    }
+    false
+}
+
+/// The fewest strokes, at most 7, that can be read as these words in two ways; 0 where there are none.
+fn fewest(rt: &impl Abort, alloc: Global, words: &str) -> u32 {
+    for len in 1..8 {
+        if are_read_twice(rt, alloc, words, len) {
+            return len;
+        }
+    }
+    0
+}
+
+/// Some of these words: each fourth one or so.
+fn some_of(rt: &impl Abort, alloc: Global, words: &str, seed: u32) -> String {
+    let mut some = String::new(alloc);
+    let mut random = seed;
+    for word in words.split(' ') {
+        random = random.wrapping_mul(1_664_525).wrapping_add(1_013_904_223);
+        if random >> 30 == 0 {
+            some.push_str(word).expect(rt, "memory");
+            some.push(' ').expect(rt, "memory");
+        }
+    }
+    some
+}
+
+#[test]
+fn random_words(rt: HostRuntime) {
+    let all = "S T SS ST TS TT SSS SST STS STT TSS TST TTS TTT";
+    for seed in 0..40 {
+        let words = some_of(&rt, rt.alloc(), all, seed);
+        let (strokes, _) = parsed(&rt, rt.alloc(), words.as_str(), "");
+        let few = if strokes < 8 { strokes } else { 0 };
+        assert_eq!(rt; few, fewest(&rt, rt.alloc(), words.as_str()), "of {words}");
     }
 }

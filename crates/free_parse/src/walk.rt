@@ -6,7 +6,7 @@ ghost use Rattle.steno_rules.specs.Outlines.{AreWords};
 ghost use Rattle.reading_laws.specs.ChosenReadings.{open_fork};
 ghost use Rattle.reading_laws.specs.ForkNumbers.{end_number, fork_count, fork_lists};
 ghost use Rattle.reading_laws.specs.Readings.{IsFree};
-ghost use Rattle.free_parse.specs.FoundReadings.{AreChosenTwo, AreFewest};
+ghost use Rattle.free_parse.specs.FoundReadings.{AreBothNumbers, AreChosenTwo, AreFewest};
 ghost use Rattle.free_parse.specs.inside.Halves.{AreNumbersOf, ended_after};
 ghost use Rattle.free_parse.specs.inside.Walks.{IsShortestWalkTo};
 
@@ -75,6 +75,7 @@ pub fn readings(
         IfSome two (AreFewest graph.now.entries graph.now.words)) }
     ensures chosen { IfOk result (λ two.
         IfSome two (AreChosenTwo graph.now.entries graph.now.words table.now)) }
+    ensures numbers { IfOk result (λ two. IfSome two (AreBothNumbers graph.now.entries)) }
 {
     let word = table[graph.end() as usize];
     if word == u64::MAX {
@@ -99,6 +100,7 @@ fn two_of(
     requires reached { word ≢ unreached }
     ensures fewest { IfOk result (AreFewest graph.now.entries graph.now.words) }
     ensures chosen { IfOk result (AreChosenTwo graph.now.entries graph.now.words table.now) }
+    ensures numbers { IfOk result (AreBothNumbers graph.now.entries) }
 {
     let strokes = (word / NUMBERS) as u32;
     let mut path = walk_back(alloc, graph, table, (word % NUMBERS) as u32, strokes - 1)?;

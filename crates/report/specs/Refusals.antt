@@ -30,6 +30,7 @@ pub data RefusalView : Type 0 where
   not_json : ℕ → RefusalView
   not_object : ℕ → RefusalView
   not_text : ℕ → List ℕ → RefusalView
+  not_report : ℕ → RefusalView
   too_many_dictionaries : ℕ → RefusalView
   too_many_bytes : ℕ → RefusalView
   outline_too_long : ℕ → List ℕ → ℕ → RefusalView
@@ -51,6 +52,8 @@ refusal_words (not_object file) =
     codes "refused" ∷ codes "file" ∷ decimal file ∷ codes "not" ∷ codes "object" ∷ []
 refusal_words (not_text file key) =
     codes "refused" ∷ codes "file" ∷ decimal file ∷ codes "not" ∷ codes "text" ∷ quoted key ∷ []
+refusal_words (not_report file) =
+    codes "refused" ∷ codes "file" ∷ decimal file ∷ codes "not" ∷ codes "report" ∷ []
 refusal_words (too_many_dictionaries n) = codes "limit" ∷ codes "dictionaries" ∷ decimal n ∷ []
 refusal_words (too_many_bytes file) =
     codes "limit" ∷ codes "bytes" ∷ codes "file" ∷ decimal file ∷ []
@@ -76,6 +79,7 @@ refusal_of of.CertFailed = certificate_failed
 refusal_of (of.NotJson file) = not_json file
 refusal_of (of.NotObject file) = not_object file
 refusal_of (of.NotText file key) = not_text file key.now
+refusal_of (of.NotReport file) = not_report file
 refusal_of (of.Dictionaries count) = too_many_dictionaries count
 refusal_of (of.Bytes file) = too_many_bytes file
 refusal_of (of.OutlineLong file key parts) = outline_too_long file key.now parts

@@ -1,5 +1,6 @@
 -- The report of an audit.
 --     report_text stack summary rows         its whole text: seven counts, the skipped keys, and three lines a row
+--     settled_text stack summary rows        the same of the pairs that stay
 --     summary_text stack summary relaxed     the counts of a search over generated words
 use Rattle.std.specs.Prelude.{ℕ, List, [], ◌∷◌, ◌++◌, length, map, flat_map, sum_by, Option, Some, None, codes, decimal, slice_index_or}
 use Rattle.std.specs.List.{enumerate_from}
@@ -82,11 +83,18 @@ head_text name stack summary =
 abbrev pub rows_text : List ℕ → StackView → List Row → List ℕ
 rows_text name stack rows = flat_map (row_text name stack) rows
 
+-- a report of pairs: the name of their count, and the name with which the first line of each begins
+abbrev pub pairs_text : List ℕ → List ℕ → StackView → Summary → List Row → List ℕ
+pairs_text many one stack summary rows =
+    head_text many stack summary ++ (skipped_text stack ++ rows_text one stack rows)
+
 -- the report of an audit
 abbrev pub report_text : StackView → Summary → List Row → List ℕ
-report_text stack summary rows =
-    head_text (codes "conflicts") stack summary
-    ++ (skipped_text stack ++ rows_text (codes "conflict") stack rows)
+report_text stack summary rows = pairs_text (codes "conflicts") (codes "conflict") stack summary rows
+
+-- the report of the pairs that stay
+abbrev pub settled_text : StackView → Summary → List Row → List ℕ
+settled_text stack summary rows = pairs_text (codes "settled") (codes "settled") stack summary rows
 
 -- the counts alone, and how many moves the search made
 abbrev pub summary_text : StackView → Summary → ℕ → List ℕ

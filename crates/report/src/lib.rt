@@ -19,7 +19,7 @@ pub use fault_lines::{write_fault, write_memory};
 pub use faults::{FaultLine, Why};
 pub use outside::OutsideFault as ReportFault;
 pub use replays::write_replay;
-pub use reports::{Summary, write_report, write_summary};
+pub use reports::{Summary, write_report, write_settled, write_summary};
 
 #[cfg(test)]
 mod tests;

@@ -1,9 +1,9 @@
-//! The report of an audit, and the summary of a search.
+//! The report of an audit or of the pairs that stay, and the summary of a search.
 
 ghost use Rattle.std.specs.Prelude.{◌≡◌, ◌++◌, IfOk, OnOk, codes, flat_map, length};
 ghost use Rattle.outside.specs.Sink.{Puts};
 ghost use Rattle.longest_match.specs.Rows.{AreSmall};
-ghost use Rattle.report.specs.Reports.{head_text, number_line, report_text, rows_text, skipped_line, skipped_text, summary_text};
+ghost use Rattle.report.specs.Reports.{head_text, number_line, pairs_text, report_text, rows_text, settled_text, skipped_line, skipped_text, summary_text};
 ghost use Rattle.pages.specs.Pages.{AddsToPage, progress};
 
 use crate::indexes::Index;
@@ -22,7 +22,7 @@ pub struct Summary {
     pub states: u32,
     /// One more than the greatest number of strokes that leads to a state at best.
     pub rounds: u32,
-    /// The conflicts.
+    /// The rows: conflicts, or pairs that stay.
     pub conflicts: u32,
 }
 
@@ -122,21 +122,22 @@ fn write_skipped<S: Sink>(
     Ok(())
 }
 
-/// Writes the three lines of each conflict.
-fn write_conflicts<S: Sink>(
+/// Writes the three lines of each row, the first of which begins with this name.
+fn write_indexed<S: Sink>(
     alloc: Global,
     sink: &mut S,
     page: &mut Vec<u8>,
+    name: &[u8],
     stack: &Stack,
-    conflicts: &[Conflict],
+    rows: &[Conflict],
 ) -> Result<(), OutsideFault>
-    requires { AreSmall stack.now.outlines conflicts.now }
+    requires { AreSmall stack.now.outlines rows.now }
     ensures { let before = progress (S.text sink.old) (S.faults sink.old) page.old.items in
         let after = progress (S.text sink.new) (S.faults sink.new) page.new.items in
-        AddsToPage (rows_text (codes "conflict") stack.now conflicts.now) result before after }
+        AddsToPage (rows_text name.now stack.now rows.now) result before after }
 {
     let index = Index::new(alloc, stack)?;
-    write_rows(alloc, sink, page, &index, b"conflict", conflicts)
+    write_rows(alloc, sink, page, &index, name, rows)
 }
 
 /// A page with the seven counts, the last of which has this name.
@@ -151,6 +152,28 @@ fn head_page(
     let mut page = new_page(alloc)?;
     push_head(&mut page, name, stack, summary)?;
     Ok(page)
+}
+
+/// Puts a report of pairs: seven counts, the last of which has the name `many`, the skipped keys, and three lines a row, the
+/// first of which begins with the name `one`.
+fn write_pairs<S: Sink>(
+    alloc: Global,
+    sink: &mut S,
+    many: &[u8],
+    one: &[u8],
+    stack: &Stack,
+    summary: &Summary,
+    rows: &[Conflict],
+) -> Result<(), OutsideFault>
+    requires { AreSmall stack.now.outlines rows.now }
+    ensures { let text = pairs_text many.now one.now stack.now summary.now rows.now in
+        Puts text result (S.text sink.old) (S.text sink.new)
+        (S.faults sink.old) (S.faults sink.new) }
+{
+    let mut page = head_page(alloc, many, stack, summary)?;
+    write_skipped(sink, &mut page, stack)?;
+    write_indexed(alloc, sink, &mut page, one, stack, rows)?;
+    write_all(sink, &page)
 }
 
 /// Puts the report: seven counts, the skipped keys, and three lines a conflict.
@@ -170,10 +193,33 @@ pub fn write_report<S: Sink>(
         Puts text result (S.text sink.old) (S.text sink.new)
         (S.faults sink.old) (S.faults sink.new) }
 {
-    let mut page = head_page(alloc, b"conflicts", stack, summary)?;
-    write_skipped(sink, &mut page, stack)?;
-    write_conflicts(alloc, sink, &mut page, stack, conflicts)?;
-    write_all(sink, &page)
+    write_pairs(
+        alloc,
+        sink,
+        b"conflicts",
+        b"conflict",
+        stack,
+        summary,
+        conflicts,
+    )
+}
+
+/// Puts the report of the pairs that stay, as [`write_report`] does with conflicts; `settled` stands in place of the words
+/// `conflicts` and `conflict`.
+pub fn write_settled<S: Sink>(
+    alloc: Global,
+    sink: &mut S,
+    stack: &Stack,
+    summary: &Summary,
+    pairs: &[Conflict],
+) -> Result<(), OutsideFault>
+    requires count { summary.now.conflicts ≡ length pairs.now }
+    requires small { AreSmall stack.now.outlines pairs.now }
+    ensures { let text = settled_text stack.now summary.now pairs.now in
+        Puts text result (S.text sink.old) (S.text sink.new)
+        (S.faults sink.old) (S.faults sink.new) }
+{
+    write_pairs(alloc, sink, b"settled", b"settled", stack, summary, pairs)
 }
 
 /// The text of a summary.

@@ -4,9 +4,11 @@
 //! space between two, files as `name=text` and lines of the output with `;` between two.
 
 ghost use Rattle.std.specs.Prelude.{◌≡◌, ◌<◌, ◌^◌, All, IsTrue, false, map, string_bytes, string_len};
-ghost use Rattle.audit_top.specs.Commands.{command_of, searches};
+ghost use Rattle.commands.specs.Inputs.{searches};
+ghost use Rattle.commands.specs.Reading.{command_of};
 
-use audit_top::{Command, Status, read_words, run, run_plain, run_program};
+use audit_top::{Status, run, run_plain, run_program};
+use commands::{Command, read_words};
 use outside::{Files, MemFiles, MemSink, PlainFiles, PlainSink, Sink};
 use std::alloc::{AllocError, Global};
 use std::io;
@@ -46,8 +48,18 @@ fn are_plain(args: &[String]) -> bool
     match read_words(args) {
         None => true,
         Some(command) => match command {
-            Command::Replay { .. } | Command::Generate { .. } => true,
-            Command::Audit { .. } | Command::AuditGenerated { .. } => false,
+            Command::Replay { .. }
+            | Command::Explain { .. }
+            | Command::Rows { .. }
+            | Command::Check { .. }
+            | Command::Upgrade { .. }
+            | Command::Generate { .. } => true,
+            Command::Audit { .. }
+            | Command::AuditJson { .. }
+            | Command::AuditTo { .. }
+            | Command::Settled { .. }
+            | Command::Parse { .. }
+            | Command::AuditGenerated { .. } => false,
         },
     }
 }
@@ -91,12 +103,12 @@ fn cut<'a>(rt: &impl Abort, row: &'a str) -> (&'a str, &'a str) {
     row.split_once('|').expect(rt, "a bar in each row")
 }
 
-/// Runs a row.
-fn check_row(
+/// Runs a row, and returns the files as they are afterwards.
+fn run_row(
     rt: &(impl Abort + Threads + Wait + Sync),
     alloc: Global,
     row: &str,
-) -> Result<(), AllocError> {
+) -> Result<MemFiles, AllocError> {
     let (line, rest) = cut(rt, row);
     let (held, rest) = cut(rt, rest);
     let (code, lines) = cut(rt, rest);
@@ -109,6 +121,16 @@ fn check_row(
     );
     let want = lines_of(alloc, lines)?;
     assert!(rt; out.text() == want.as_bytes(), "{row}");
+    Ok(files)
+}
+
+/// Runs a row.
+fn check_row(
+    rt: &(impl Abort + Threads + Wait + Sync),
+    alloc: Global,
+    row: &str,
+) -> Result<(), AllocError> {
+    run_row(rt, alloc, row)?;
     Ok(())
 }
 
@@ -585,4 +607,389 @@ fn the_most_entries(rt: HostRuntime) -> Result<(), AllocError> {
     check_row(&rt, rt.alloc(), &most)?;
     let more = strokes_row(&rt, rt.alloc(), 1_048_577, "5|limit entries 1048577")?;
     check_row(&rt, rt.alloc(), &more)
+}
+
+const EXPLAINS: &str =
+    r#"explain S T/K/P W -- d|d={"S": "is", "S/T": "ist", "T/K/P": "tkp", "W": "we", "P/W": "pw"}|0|S/T "ist";K untranslated;P/W "pw";boundary 1 crossed S/T place 1;boundary 2 crossed P/W place 1
+explain S -- d|d={"S": "is", "S/T": "ist", "T/K/P": "tkp", "W": "we", "P/W": "pw"}|0|S "is"
+explain KAT TEL -- d|d={"KAT": "cat", "TEL": "tell"}|0|KAT "cat";TEL "tell";boundary 1 kept
+explain -- d|d={}|2|refused words
+explain S --|d={}|2|refused words"#;
+
+/// The rows of a report in JSON.
+const LISTED: &str =
+    r#"rows r|r={"conflicts":[{"outline":"KAT/TEL","place":1,"strokes":2,"words":["KAT","TEL"]}],"entries":3,"folded":0,"rounds":3,"skipped":0,"states":9,"strokes":2}|0|conflict KAT/TEL place 1 strokes 2;words KAT | TEL
+rows r|r={}|4|refused file 1 not report
+rows r|r={|4|refused file 1 not json
+rows r|d={}|3|failed file 1
+rows|r={}|2|refused words"#;
+
+/// Each row is run with 1 and 8 workers, so it has no command and no number of workers before its dictionaries.
+const PARSES: &str =
+    r#"d|d={"S": "is", "S/T": "ist", "T/K/P": "tkp", "W": "we", "P/W": "pw"}|0|entries 5;states 7;rounds 3;free yes
+d|d={"S": "s", "T": "t", "K": "k", "S/T/K": "stick"}|1|entries 4;states 6;rounds 4;free no strokes 3;first S | T | K;second S/T/K
+d|d={}|0|entries 0;states 1;rounds 1;free yes"#;
+
+/// Runs a row of a search with 1 and 8 workers.
+fn check_search(
+    rt: &(impl Abort + Threads + Wait + Sync),
+    alloc: Global,
+    name: &str,
+    row: &str,
+) -> Result<(), AllocError> {
+    for workers in ["1", "8"] {
+        let row = format!(in alloc; "{name} {workers} {row}")?;
+        check_row(rt, alloc, &row)?;
+    }
+    Ok(())
+}
+
+#[test]
+fn explanations(rt: HostRuntime) -> Result<(), AllocError> {
+    check_rows(&rt, rt.alloc(), EXPLAINS)
+}
+
+#[test]
+fn rows_of_reports(rt: HostRuntime) -> Result<(), AllocError> {
+    check_rows(&rt, rt.alloc(), LISTED)
+}
+
+#[test]
+fn two_readings(rt: HostRuntime) -> Result<(), AllocError> {
+    for row in PARSES.lines() {
+        check_search(&rt, rt.alloc(), "parse", row)?;
+    }
+    Ok(())
+}
+
+const USUAL: &str = r#"d={"KAT": "cat", "TEL": "tell", "KAT/TEL": "cattle"}"#;
+
+const USUAL_JSON: &str =
+    r#"{"conflicts":[{"outline":"KAT/TEL","place":1,"strokes":2,"words":["KAT","TEL"]}],"entries":3,"folded":0,"rounds":3,"skipped":0,"states":9,"strokes":2}"#;
+
+/// The text has no line feed at its end, so this row stands in no table.
+#[test]
+fn a_report_in_json(rt: HostRuntime) -> Result<(), AllocError> {
+    let mut files = files_of(rt.alloc(), USUAL)?;
+    let mut out = MemSink::new(rt.alloc());
+    let found = run_line(&rt, rt.alloc(), "audit-json 1 d", &mut files, &mut out)?;
+    assert_eq!(rt; found, Status::Conflicts);
+    assert!(rt; out.text() == USUAL_JSON.as_bytes());
+    Ok(())
+}
+
+/// Out of step: the entries S, S/T, T/K/P, P/W and W.
+const OUT_OF_STEP: &str = r#"d={"S": "is", "S/T": "ist", "T/K/P": "tkp", "W": "we", "P/W": "pw"}"#;
+
+/// Their certificate in version 1.
+const VERSION_1: &str =
+    "boundary-certificate 1\nentries 5\nstates 54\nd 0 0\nd 1 1\nd 2 1\nd 4 1\nd 5 2\nd 6 2\nd 10 2\nd 12 2\nd 14 1\nd 19 2\nd 20 3\nd 25 3\nd 32 3\nd 38 4\nd 39 1\nd 41 4\nd 42 2\nd 47 2\nd 48 5\nd 50 1\nd 53 1\nconflicts 1\nr 3 1 5 0 2 4\nend\n";
+
+/// And in version 2.
+const VERSION_2: &str =
+    "boundary-certificate 2\nentries 5\nstates 54\ng 0 0 0\ng 1 2 1\ng 4 4 1\ng 5 6 2\ng 10 10 2\ng 12 12 2\ng 14 14 1\ng 19 19 2\ng 20 20 3\ng 25 25 3\ng 32 32 3\ng 38 38 4\ng 39 39 1\ng 41 41 4\ng 42 42 2\ng 47 47 2\ng 48 48 5\ng 50 50 1\ng 53 53 1\nconflicts 1\nr 3 1 5 0 2 4\nend\n";
+
+/// Runs a row, after which the file `c` has these lines, with `;` between two.
+fn check_written(
+    rt: &(impl Abort + Threads + Wait + Sync),
+    alloc: Global,
+    row: &str,
+    lines: &str,
+) -> Result<(), AllocError> {
+    let files = run_row(rt, alloc, row)?;
+    let want = lines_of(alloc, lines)?;
+    assert_eq!(rt; files.bytes("c"), Some(want.as_bytes()), "{row}");
+    Ok(())
+}
+
+/// The lines of the certificate, a bar, and the row.
+const CERTIFIED: &str =
+    r#"boundary-certificate 2;entries 5;states 54;g 0 0 0;g 1 2 1;g 4 4 1;g 5 6 2;g 10 10 2;g 12 12 2;g 14 14 1;g 19 19 2;g 20 20 3;g 25 25 3;g 32 32 3;g 38 38 4;g 39 39 1;g 41 41 4;g 42 42 2;g 47 47 2;g 48 48 5;g 50 50 1;g 53 53 1;conflicts 1;r 3 1 5 0 2 4;end|audit-to c 2 d|d={"S": "is", "S/T": "ist", "T/K/P": "tkp", "W": "we", "P/W": "pw"}|1|entries 5;skipped 0;folded 0;strokes 5;states 21;rounds 6;conflicts 1;conflict P/W place 1 strokes 5;words S | T/K/P | W;shows "ist" | K | "pw"
+boundary-certificate 2;entries 3;states 17;g 0 0 0;g 1 1 1;g 4 5 1;g 8 8 1;g 9 9 2;g 14 15 2;conflicts 1;r 2 1 2 1 0;end|audit-to c 1 w.json match:m.json|w.json={"KAT": "cat", "TEL": "tell"};m.json={"KAT/TEL": "cattle"}|1|entries 3;skipped 0;folded 0;strokes 2;states 8;rounds 3;conflicts 1;conflict KAT/TEL place 1 strokes 2;words KAT | TEL;shows "cattle"
+boundary-certificate 2;entries 0;states 1;g 0 0 0;conflicts 0;end|audit-to c 1 d|d={}|0|entries 0;skipped 0;folded 0;strokes 0;states 1;rounds 1;conflicts 0"#;
+
+#[test]
+fn audits_with_a_certificate(rt: HostRuntime) -> Result<(), AllocError> {
+    for row in CERTIFIED.lines() {
+        let (certificate, row) = cut(&rt, row);
+        check_written(&rt, rt.alloc(), row, certificate)?;
+    }
+    Ok(())
+}
+
+/// A change a line: a part of the certificate in version 1, what stands in that place, and how the check ends, with `|` between
+/// them. `;` is a line feed.
+const FORGED: &str = r#"certificate 1|certificate 1|0|accepted conflicts 1
+certificate 1|certificate 3|8|rejected line 1 form
+entries 5|entries 4|8|rejected line 2 entries
+d 0 0|d 0 1|8|rejected line 25 start
+d 1 1;|d 1 1;d 1 1;|8|rejected line 6 number
+d 6 2|d 6 3|8|rejected line 5 move
+d 48 5;||8|rejected line 19 move
+d 48 5|d 48 4|8|rejected line 26 row
+1;r 3 1 5 0 2 4;|0;|8|rejected line 25 count
+r 3 1 5 0 2 4;||8|rejected line 26 form
+end;||8|rejected line 27 form
+end;|end;x;|8|rejected line 28 rest"#;
+
+/// The same of version 2.
+const FORGED_2: &str = r#"certificate 2|certificate 2|0|accepted conflicts 1
+g 5 6 2|g 5 6 3|8|rejected line 5 move
+g 5 6 2|g 6 5 2|8|rejected line 7 form"#;
+
+/// Checks a row's change of this certificate.
+fn check_change(
+    rt: &(impl Abort + Threads + Wait + Sync),
+    alloc: Global,
+    certificate: &str,
+    row: &str,
+) -> Result<(), AllocError> {
+    let (old, rest) = cut(rt, row);
+    let (new, ends) = cut(rt, rest);
+    let old = old.replace(alloc, ';', "\n")?;
+    let new = new.replace(alloc, ';', "\n")?;
+    let (before, after) = certificate
+        .split_once(old.as_str())
+        .expect(rt, "the part that is changed");
+    let row = format!(in alloc; "check c d|{OUT_OF_STEP};c={before}{new}{after}|{ends}")?;
+    check_row(rt, alloc, &row)
+}
+
+#[test]
+fn forged_certificates(rt: HostRuntime) -> Result<(), AllocError> {
+    for row in FORGED.lines() {
+        check_change(&rt, rt.alloc(), VERSION_1, row)?;
+    }
+    for row in FORGED_2.lines() {
+        check_change(&rt, rt.alloc(), VERSION_2, row)?;
+    }
+    Ok(())
+}
+
+/// A file of words, and one that only matches.
+const FEWER_WORDS: &str = r#"w={"KAT": "cat", "TEL": "tell"};m={"KAT/TEL": "cattle"}"#;
+
+/// The certificate of the usual case, where all entries are words.
+const USUAL_VERSION_1: &str =
+    "boundary-certificate 1\nentries 3\nstates 17\nd 0 0\nd 1 1\nd 4 1\nd 5 1\nd 6 1\nd 8 1\nd 9 2\nd 14 2\nd 15 2\nconflicts 1\nr 2 1 2 1 0\nend\n";
+
+/// In the state of number 6 the word KAT/TEL is begun, which isn't one of the words of the second line.
+#[test]
+fn a_certificate_of_more_words(rt: HostRuntime) -> Result<(), AllocError> {
+    let alloc = rt.alloc();
+    let accepted = "0|accepted conflicts 1";
+    let row = format!(in alloc; "check c d|{USUAL};c={USUAL_VERSION_1}|{accepted}")?;
+    check_row(&rt, alloc, &row)?;
+    let refused = "8|rejected line 8 number";
+    let row = format!(in alloc; "check c w match:m|{FEWER_WORDS};c={USUAL_VERSION_1}|{refused}")?;
+    check_row(&rt, alloc, &row)
+}
+
+const CHECKS: &str = r#"check c d|d={}|3|failed certificate
+check c d|c=|3|failed file 1
+check c d|d={};c=|8|rejected line 1 form
+check c|d={};c=|2|refused words
+check c match:|d={};c=|2|refused words"#;
+
+#[test]
+fn checks_refused(rt: HostRuntime) -> Result<(), AllocError> {
+    check_rows(&rt, rt.alloc(), CHECKS)
+}
+
+/// An audit writes its certificate, and the check accepts it.
+#[test]
+fn plain_objects_keep_a_certificate(rt: HostRuntime) -> Result<(), AllocError> {
+    let mut files = PlainFiles::new(rt.alloc());
+    files.add("d", b"{\"S\": \"a\", \"S/S\": \"b\"}")?;
+    let mut out = PlainSink::new(rt.alloc());
+    let found = run_line(&rt, rt.alloc(), "audit-to c 2 d", &mut files, &mut out)?;
+    assert_eq!(rt; found, Status::Conflicts);
+    let mut out = PlainSink::new(rt.alloc());
+    let args = arguments_of(rt.alloc(), "check c d")?;
+    assert!(rt; are_short(&args));
+    assert!(rt; are_plain(&args));
+    let found = run_plain(rt.alloc(), &args, &mut files, &mut out);
+    assert_eq!(rt; found, Status::Clean);
+    assert!(rt; out.text() == b"accepted conflicts 1\n".as_slice());
+    Ok(())
+}
+
+/// The dictionary that is out of step, with its certificate in version 2 and, in `o`, in version 1.
+fn with_certificates(alloc: Global) -> Result<MemFiles, AllocError> {
+    let held = format!(in alloc; "{OUT_OF_STEP};c={VERSION_2};o={VERSION_1}")?;
+    files_of(alloc, &held)
+}
+
+/// Whether the text begins with the bytes of the named file, if it is held.
+fn holds_prefix(files: &MemFiles, name: &str, text: &str) -> bool {
+    match files.bytes(name) {
+        None => true,
+        Some(bytes) => text.as_bytes().starts_with(bytes),
+    }
+}
+
+/// Runs a line over files whose call of this number fails, and returns whether it was made. The first `dictionary` calls read
+/// the dictionary, and the others a certificate. A file `n` that is written holds a prefix of version 2.
+fn fails_at(
+    rt: &(impl Abort + Threads + Wait + Sync),
+    alloc: Global,
+    line: &str,
+    dictionary: u64,
+    call: u64,
+) -> Result<bool, AllocError> {
+    let mut files = with_certificates(alloc)?;
+    files.fail_at(only(alloc, call)?);
+    let mut out = MemSink::new(alloc);
+    let found = run_line(rt, alloc, line, &mut files, &mut out)?;
+    assert!(rt; holds_prefix(&files, "n", VERSION_2), "{line} at {call}");
+    if found != Status::File {
+        assert!(rt;
+            found == Status::Clean || found == Status::Conflicts,
+            "{line}"
+        );
+        return Ok(false);
+    }
+    let want = if call < dictionary {
+        "failed file 1\n"
+    } else {
+        "failed certificate\n"
+    };
+    assert!(rt; out.text() == want.as_bytes(), "{line} at {call}");
+    Ok(true)
+}
+
+/// Each call of the files fails in turn, until a run ends without a fault. There are `calls` of them or more.
+fn check_failing_calls(
+    rt: &(impl Abort + Threads + Wait + Sync),
+    alloc: Global,
+    line: &str,
+    dictionary: u64,
+    calls: u64,
+) -> Result<(), AllocError> {
+    for call in 0..100 {
+        if !fails_at(rt, alloc, line, dictionary, call)? {
+            assert!(rt; call >= calls, "{line} ends at {call}");
+            return Ok(());
+        }
+    }
+    panic!(rt; "{line} fails at each call")
+}
+
+/// A dictionary has three calls: it is opened, taken and found to have ended. A certificate has as many where it is read, and
+/// where it is written it is begun, put in one piece or more and ended.
+#[test]
+fn each_call_for_a_certificate_fails(rt: HostRuntime) -> Result<(), AllocError> {
+    check_failing_calls(&rt, rt.alloc(), "audit-to n 2 d", 3, 6)?;
+    check_failing_calls(&rt, rt.alloc(), "check c d", 3, 5)?;
+    check_failing_calls(&rt, rt.alloc(), "check o d", 3, 5)
+}
+
+/// Runs a line over an output whose call of this number fails, and returns whether it was made. The output holds a prefix of
+/// what the line puts without a fault.
+fn output_fails_at(
+    rt: &(impl Abort + Threads + Wait + Sync),
+    alloc: Global,
+    line: &str,
+    whole: &[u8],
+    call: u64,
+) -> Result<bool, AllocError> {
+    let mut files = with_certificates(alloc)?;
+    let mut out = MemSink::new(alloc);
+    out.fail_at(only(alloc, call)?);
+    let found = run_line(rt, alloc, line, &mut files, &mut out)?;
+    assert!(rt; whole.starts_with(out.text()), "{line} at {call}");
+    if found == Status::Output {
+        return Ok(true);
+    }
+    assert!(rt; out.text() == whole, "{line} at {call}");
+    Ok(false)
+}
+
+/// Each put of the output fails in turn, until a run ends without a fault.
+fn check_failing_puts(
+    rt: &(impl Abort + Threads + Wait + Sync),
+    alloc: Global,
+    line: &str,
+    whole: &str,
+) -> Result<(), AllocError> {
+    let whole = lines_of(alloc, whole)?;
+    for call in 0..100 {
+        if !output_fails_at(rt, alloc, line, whole.as_bytes(), call)? {
+            assert!(rt; call >= 1, "{line} puts nothing");
+            return Ok(());
+        }
+    }
+    panic!(rt; "{line} fails at each put")
+}
+
+/// A line and its output.
+const PUTS: &str =
+    r#"audit-to n 2 d|entries 5;skipped 0;folded 0;strokes 5;states 21;rounds 6;conflicts 1;conflict P/W place 1 strokes 5;words S | T/K/P | W;shows "ist" | K | "pw"
+check c d|accepted conflicts 1
+check n d|failed certificate"#;
+
+#[test]
+fn each_put_fails(rt: HostRuntime) -> Result<(), AllocError> {
+    for row in PUTS.lines() {
+        let (line, whole) = cut(&rt, row);
+        check_failing_puts(&rt, rt.alloc(), line, whole)?;
+    }
+    Ok(())
+}
+
+/// Each row is run with 1 and 8 workers, so it has no command and no number of workers before its dictionaries.
+const SETTLED: &str =
+    r#"d|d={"S": "is", "S/T": "ist", "T/K/P": "tkp", "W": "we", "P/W": "pw"}|1|entries 5;skipped 0;folded 0;strokes 5;states 21;rounds 6;settled 2;settled S/T place 1 strokes 4;words S | T/K/P;shows "ist" | K | P;settled P/W place 1 strokes 5;words S | T/K/P | W;shows "ist" | K | "pw"
+d|d={"S/T": "a", "K/P": "b"}|0|entries 2;skipped 0;folded 0;strokes 4;states 7;rounds 3;settled 0"#;
+
+#[test]
+fn settled_pairs(rt: HostRuntime) -> Result<(), AllocError> {
+    for row in SETTLED.lines() {
+        check_search(&rt, rt.alloc(), "settled", row)?;
+    }
+    Ok(())
+}
+
+/// Upgrades a certificate, after which the file `n` has these bytes.
+fn check_upgraded(
+    rt: &(impl Abort + Threads + Wait + Sync),
+    alloc: Global,
+    line: &str,
+    certificate: &str,
+    ends: &str,
+    want: Option<&[u8]>,
+) -> Result<(), AllocError> {
+    let (_, name) = line.split_once(' ').expect(rt, "a name");
+    let (name, _) = name.split_once(' ').expect(rt, "two names");
+    let row = format!(in alloc; "{line}|{name}={certificate}|{ends}")?;
+    let files = run_row(rt, alloc, &row)?;
+    assert_eq!(rt; files.bytes("n"), want, "{line}");
+    Ok(())
+}
+
+#[test]
+fn certificates_written_anew(rt: HostRuntime) -> Result<(), AllocError> {
+    let done = "0|upgraded conflicts 1";
+    let version_2 = Some(VERSION_2.as_bytes());
+    check_upgraded(&rt, rt.alloc(), "upgrade c n", VERSION_1, done, version_2)?;
+    check_upgraded(&rt, rt.alloc(), "upgrade n n", VERSION_1, done, version_2)?;
+    check_upgraded(&rt, rt.alloc(), "upgrade n n", VERSION_2, done, version_2)
+}
+
+const UPGRADES: &str = r#"upgrade c n||3|failed certificate
+upgrade c n|c=|8|rejected line 1 form
+upgrade c|c=|2|refused words"#;
+
+#[test]
+fn upgrades_refused(rt: HostRuntime) -> Result<(), AllocError> {
+    let (without_end, _) = VERSION_1.split_once("end\n").expect(&rt, "the end");
+    let ends = "8|rejected line 27 form";
+    check_upgraded(&rt, rt.alloc(), "upgrade c n", without_end, ends, None)?;
+    check_rows(&rt, rt.alloc(), UPGRADES)
+}
+
+#[test]
+fn each_call_of_an_upgrade_fails(rt: HostRuntime) -> Result<(), AllocError> {
+    check_failing_calls(&rt, rt.alloc(), "upgrade o n", 0, 5)?;
+    check_failing_puts(&rt, rt.alloc(), "upgrade o n", "upgraded conflicts 1")
 }

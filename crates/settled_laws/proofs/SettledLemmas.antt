@@ -15,8 +15,9 @@ use Rattle.steno_rules.specs.StateNumbers.{state_number}
 use Rattle.steno_rules.specs.ClosureGraphs.{kept_lists}
 use Rattle.translation_laws.specs.Pieces.{HasPiece}
 use Rattle.settled_laws.specs.SettledPairs.{Stays, SettledPair, IsLeastSettled}
-use Rattle.settled_laws.specs.OpenHits.{IsReachedHit, IsLeastReached}
+use Rattle.settled_laws.specs.OpenHits.{CanFinish, IsReachedHit, IsLeastReached}
 use Rattle.settled_laws.specs.OpenNumbers.{IsOpenNumber, IsLeastOpen}
+use Rattle.settled_laws.specs.ChosenOpenHits.{ended_word}
 use Rattle.steno_rules.proofs.Lists.{two_cuts, All-snoc}
 use Rattle.steno_rules.proofs.Prefixes.{is_prefix-entry}
 use Rattle.steno_rules.proofs.SegmentLemmas.{concat-segments}
@@ -193,13 +194,29 @@ stays_made entries vs ns e place m i y z same joined piece fits cut some inside 
 pub Made : List (List ℕ) → List (List ℕ) → ℕ → ℕ → ℕ → Type 0
 Made entries words e place n = (ns : List ℕ) × AreWordNumbers entries words ns × Stays entries ns e place × (length (joined_strokes entries ns) ≡ n)
 
-made_by_mark : (entries words ws : List (List ℕ)) (u v : List ℕ) (m : Option ℕ) (e place : ℕ) (z : List ℕ) → AreWords entries words → AllByRecursion (λ w. is_word words w ≡ true) ws →
-    u ≡ window entries (concat ws ++ v) → MarksBoundary ws (length (concat ws ++ v)) (length u) m → last_piece entries u ≡ Some (outline_of entries e) →
-    IsHitMark m (length (outline_of entries e)) place → ((v ≡ []) × (z ≡ [])) ⊎ ((is_word words (v ++ z) ≡ true) × HasPiece entries (u ++ z) (outline_of entries e) (length u - length (outline_of entries e))) →
-    Made entries words e place (length (concat ws ++ v) + length z)
-unfolding Made
-made_by_mark entries words ws u v None e place z are all is marks piece mark can = absurd mark
-made_by_mark entries words ws u v (Some m) e place z are all is marks piece mark can =
+-- how a state finishes: at once where no word is open, or else by a word that z ends
+abbrev pub Ends : List (List ℕ) → List (List ℕ) → List ℕ → List ℕ → List ℕ → List ℕ → Type 0
+Ends entries words u v o z =
+    ((v ≡ []) × (z ≡ [])) ⊎ ((v ≢ []) × (is_word words (v ++ z) ≡ true) × HasPiece entries (u ++ z) o (length u - length o))
+
+ended-some : (v z : List ℕ) → v ≢ [] → ended_word v z ≡ (v ++ z) ∷ []
+ended-some [] z some = absurd (some refl)
+ended-some (c ∷ v) z some = refl
+
+-- The words and the one that z ends are words.
+pub ended_words : (entries words ws : List (List ℕ)) (u v o z : List ℕ) → AllByRecursion (λ w. is_word words w ≡ true) ws → Ends entries words u v o z →
+    AllByRecursion (λ w. is_word words w ≡ true) (ws ++ ended_word v z)
+ended_words entries words ws u v o z all (inl h) = subst (AllByRecursion (λ w. is_word words w ≡ true)) (sym (ap (λ l. ws ++ ended_word l z) h.0 ∙ append-nil ws)) all
+ended_words entries words ws u v o z all (inr h) =
+    subst (λ l. AllByRecursion (λ w. is_word words w ≡ true) (ws ++ l)) (sym (ended-some v z h.0)) (All-snoc (λ w. is_word words w ≡ true) ws (v ++ z) all h.1)
+
+-- Words that a marked state stands for, and the one that z ends, have its pair.
+pub stays_by_mark : (entries words ws : List (List ℕ)) (u v : List ℕ) (m : Option ℕ) (e place : ℕ) (z : List ℕ) → u ≡ window entries (concat ws ++ v) →
+    MarksBoundary ws (length (concat ws ++ v)) (length u) m → last_piece entries u ≡ Some (outline_of entries e) → IsHitMark m (length (outline_of entries e)) place →
+    Ends entries words u v (outline_of entries e) z → (ns : List ℕ) → outlines_of entries ns ≡ ws ++ ended_word v z →
+    Stays entries ns e place × (length (joined_strokes entries ns) ≡ length (concat ws ++ v) + length z)
+stays_by_mark entries words ws u v None e place z is marks piece mark can ns same = absurd mark
+stays_by_mark entries words ws u v (Some m) e place z is marks piece mark can ns same =
     let o : List ℕ = outline_of entries e in
     let y : List ℕ = concat ws ++ v in
     let i : ℕ = marks.1.0 in
@@ -208,42 +225,46 @@ made_by_mark entries words ws u v (Some m) e place z are all is marks piece mark
     let fits : length o ≤ length y = last_piece-short entries y o last in
     elim can [
       | inl h ↦
-          let found = numbers_of entries words ws are all in
+          let same' : outlines_of entries ns ≡ ws = same ∙ ap (λ l. ws ++ ended_word l z) h.0 ∙ append-nil ws in
           let joined : concat ws ≡ y = sym (append-nil (concat ws)) ∙ ap (λ l. concat ws ++ l) (sym h.0) in
           let no_more : y ++ z ≡ y = ap (λ l. y ++ l) h.1 ∙ append-nil y in
           let inside : i < length ws = elim (cases_lt i (length ws)) [
             | inl below ↦ below
             | inr past ↦ absurd (omega (arith, marks.1.3, mark.0, ap length joined, ap (λ l. length (concat l)) (take_all i ws past)))
           ] in (
-            found.0,
-            found.1,
-            stays_made entries ws found.0 e place m i y z found.2 (joined ∙ sym no_more) (subst (λ l. HasPiece entries l o (length y - length o)) (sym no_more) (last_piece-at entries y o last)) fits marks.1.3 marks.1.1 inside mark,
-            omega (arith, ap (λ l. length (concat l)) found.2, ap length joined, ap length h.1),
+            stays_made entries ws ns e place m i y z same' (joined ∙ sym no_more) (subst (λ l. HasPiece entries l o (length y - length o)) (sym no_more) (last_piece-at entries y o last)) fits marks.1.3 marks.1.1 inside mark,
+            omega (arith, ap (λ l. length (concat l)) same', ap length joined, ap length h.1),
           )
       | inr h ↦
           let w : List ℕ = v ++ z in
           let vs : List (List ℕ) = ws ++ w ∷ [] in
-          let found = numbers_of entries words vs are (All-snoc (λ w. is_word words w ≡ true) ws w all h.0) in
+          let same' : outlines_of entries ns ≡ vs = same ∙ ap (λ l. ws ++ l) (ended-some v z h.0) in
           let joined : concat vs ≡ y ++ z = concat-snoc ws w ∙ sym (append_assoc (concat ws) v z) in
-          let same : take i vs ≡ take i ws = take-append-le i ws (w ∷ []) marks.1.2 in
+          let front : take i vs ≡ take i ws = take-append-le i ws (w ∷ []) marks.1.2 in
           let is_entry_o : is_entry entries o ≡ true = outline_is_entry entries e (omega (arith, mark.1)) in
           let there : HasPiece entries (y ++ z) o (length y - length o) =
-          (stays-window entries y o z last is_entry_o).1 (subst (λ l. HasPiece entries (l ++ z) o (length l - length o)) is h.1) in (
-            found.0,
-            found.1,
-            stays_made entries vs found.0 e place m i y z found.2 joined there fits (omega (arith, ap (λ l. length (concat l)) same, marks.1.3)) marks.1.1 (omega (arith, marks.1.2, length_push ws w)) mark,
-            omega (arith, ap (λ l. length (concat l)) found.2, ap length joined, length-append y z),
+          (stays-window entries y o z last is_entry_o).1 (subst (λ l. HasPiece entries (l ++ z) o (length l - length o)) is h.2) in (
+            stays_made entries vs ns e place m i y z same' joined there fits (omega (arith, ap (λ l. length (concat l)) front, marks.1.3)) marks.1.1 (omega (arith, marks.1.2, length_push ws w)) mark,
+            omega (arith, ap (λ l. length (concat l)) same', ap length joined, length-append y z),
           )
     ]
 
+-- The two ways in which a state finishes.
+pub ends_of : (entries words : List (List ℕ)) (s : State) (o z : List ℕ) → CanFinish entries words s o z → Ends entries words s.u s.v o z
+ends_of entries words s o z (inl k) = inl k
+ends_of entries words s o z (inr k) = inr (k.0, k.1.word, k.1.piece)
+
 pub settled_of_hit : (entries words : List (List ℕ)) (e place n : ℕ) (z : List ℕ) → AreWords entries words → IsReachedHit entries words e place n z → Made entries words e place (n + length z)
+unfolding Made
 settled_of_hit entries words e place n z are h =
     let s : State = h.state in
     let at = Reached-Walk entries words n s h.walk in
     let long : length (concat at.0 ++ s.v) ≡ n = at.1.strokes in
     let marks : MarksBoundary at.0 (length (concat at.0 ++ s.v)) (length s.u) s.mark = subst (λ k. MarksBoundary at.0 k (length s.u) s.mark) (sym long) at.1.marks in
-    let made = made_by_mark entries words at.0 s.u s.v s.mark e place z are at.1.are_words at.1.window marks h.hit.piece h.hit.mark (elim h.can [ inl k ↦ inl k | inr k ↦ inr (k.1.word, k.1.piece) ]) in
-    subst (λ k. Made entries words e place (k + length z)) long made
+    let can = ends_of entries words s (outline_of entries e) z h.can in
+    let found = numbers_of entries words (at.0 ++ ended_word s.v z) are (ended_words entries words at.0 s.u s.v (outline_of entries e) z at.1.are_words can) in
+    let made = stays_by_mark entries words at.0 s.u s.v s.mark e place z at.1.window marks h.hit.piece h.hit.mark can found.0 found.2 in
+    (found.0, found.1, made.0, omega (arith, made.1, long))
 
 -- ---- the law
 

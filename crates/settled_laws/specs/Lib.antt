@@ -1,3 +1,4 @@
 pub mod SettledPairs
 pub mod OpenHits
 pub mod OpenNumbers
+pub mod ChosenOpenHits

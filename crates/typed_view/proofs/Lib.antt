@@ -1,3 +1,4 @@
 pub mod Crossings
 pub mod PassedPieces
 pub mod LineLemmas
+pub mod CoverNumbers

@@ -1,16 +1,19 @@
 -- What the parts of a run return before the line of a refusal is written.
 --     Answers May old new answer             a part that only writes to the output
 --     IsAnswer command before after answer   the function of a command
-use Rattle.std.specs.Prelude.{ℕ, ◌≡◌, List, false, true, Bool, nat_le, length, Option, Some, None, Result, Ok, Err}
+--     Goes line limit touched May before after answer   a part of it that reads or writes one more file
+use Rattle.std.specs.Prelude.{ℕ, ◌≡◌, ◌⊎◌, List, false, true, Bool, nat_le, length, IfSome, IsSome, Option, Some, None, Result, Ok, Err}
 use Rattle.std.specs.Io.KnownBytes.{append_known}
 use Rattle.outside.specs.Faults.{Rose}
-use Rattle.outside.specs.Files.{LeavesFiles}
+use Rattle.outside.specs.Files.{FilesView, LeavesFiles}
+use Rattle.outside.specs.declared.fault.Way.TheVariants.{Reading, Writing}
 use Rattle.dict_stack.specs.Stacks.{most_dictionaries}
 use Rattle.report.specs.Refusals.{RefusalView, refusal_text}
-use Rattle.audit_top.specs.Commands.{CommandView, audit, audit_generated, generate, reads_files, replay, writes}
+use Rattle.commands.specs.Commands.{CommandView}
+use Rattle.commands.specs.Inputs.{dictionaries_of, reads_files, writes}
 use Rattle.audit_top.specs.Statuses.{refusal_status}
-use Rattle.audit_top.specs.Expected.{Expected, Inputs, Written, refused}
-use Rattle.audit_top.specs.Runs.{AreInputs, EndsWhole, FailsNamed, IsBegun, IsFilePart, MayProduce, OpensNamed, OutputView, World, Writes}
+use Rattle.audit_top.specs.Outcomes.{Expected, Inputs, Written, refused}
+use Rattle.audit_top.specs.Runs.{AreInputs, EndsWhole, FailedAt, FailsNamed, IsBegun, IsFilePart, MayProduce, OpensNamed, OutputView, World, Writes}
 use Rattle.audit_top.specs.inside.Stops.{Stop, by_memory, by_output, by_refusal, stop_of}
 use Rattle.audit_top.specs.declared.refusals.Refusal.{Refusal}
 use Rattle.audit_top.specs.declared.refusals.Refusal.TheVariants as of
@@ -76,10 +79,7 @@ IsAnswered May before after (Err refusal) = IsStopped May before after (stop_of 
 -- a command that isn't refused before it asks for memory
 abbrev pub needs_memory : Option CommandView → Bool
 needs_memory None = false
-needs_memory (Some (replay outline dicts)) = nat_le (length dicts) most_dictionaries
-needs_memory (Some (audit workers dicts)) = nat_le (length dicts) most_dictionaries
-needs_memory (Some (generate start count)) = true
-needs_memory (Some (audit_generated start count workers)) = true
+needs_memory (Some command) = nat_le (length (dictionaries_of command)) most_dictionaries
 
 -- memory ran out where it was needed, and no file failed
 pub record RanOut (command : Option CommandView) (before after : World) : Type 0 where
@@ -96,3 +96,49 @@ pub record IsAnswer (command : Option CommandView) (before after : World)
   pub opened : OpensNamed command before.files after.files
   pub faults : FailsNamed command inputs before.files after.files
   pub unread : reads_files command ≡ false → after.files ≡ before.files
+
+-- ---- a part of a command that reads or writes one more file
+
+-- the names of the file that it reads and of the one that it writes
+pub record Touched : Type 0 where
+  pub read : Option (List ℕ)
+  pub written : Option (List ℕ)
+
+abbrev pub reads_only : List ℕ → Touched
+reads_only name = record { read = Some name; written = None }
+
+abbrev pub writes_only : List ℕ → Touched
+writes_only name = record { read = None; written = Some name }
+
+-- one of them failed, and nothing had been refused before
+pub record FailsBehind (limit : Option RefusalView) (touched : Touched) (old new : FilesView)
+    : Type 0 where
+  pub accepted : limit ≡ None
+  pub failed : FailedAt touched.read Reading old new ⊎ FailedAt touched.written Writing old new
+
+-- then this line is written
+pub record IsFileFailure (line : RefusalView) (limit : Option RefusalView) (touched : Touched)
+    (May : Expected → Type 0) (old new : FilesView) (result : Expected) : Type 0 where
+  pub behind : FailsBehind limit touched old new
+  pub status_is : result.status ≡ refusal_status line
+  pub text_is : result.text ≡ refusal_text line
+  pub part : IsFilePart May result.file
+
+-- what it may produce, by what the file that it reads holds
+abbrev pub MayGo : RefusalView → Option RefusalView → Touched → (Expected → Type 0) → World → World
+    → Expected → Type 0
+MayGo line limit touched May before after result =
+    May result ⊎ IsFileFailure line limit touched May before.files after.files result
+
+pub record Goes (line : RefusalView) (limit : Option RefusalView) (touched : Touched)
+    (May : Option (List ℕ) → Expected → Type 0) (before after : World)
+    (answer : Result Status Refusal) : Type 0 where
+  pub file : Option (List ℕ)
+  pub told : IfSome before.files.held (λ held. IfSome touched.read (λ name. file ≡ Some (held name)))
+  pub is : IsAnswered (MayGo line limit touched (May file) before after) before after answer
+  pub memory : answer ≡ Err of.Memory → after.files.faults ≡ before.files.faults
+  pub unchanged : touched.written ≡ None → LeavesFiles before.files after.files
+  pub opened : (after.files.opened ≡ before.files.opened)
+      ⊎ (IsSome touched.read × (after.files.opened ≡ touched.read))
+  pub faults : (after.files.faults ≡ before.files.faults)
+      ⊎ FailsBehind limit touched before.files after.files

@@ -1,7 +1,15 @@
 -- Why a run goes no further, as the parts of a run see it, and how a fault of a call below becomes such a reason.
-use Rattle.report.specs.Refusals.{RefusalView, not_words, too_many_nodes, too_many_states}
+use Rattle.report.specs.Refusals.{RefusalView, certificate_failed, certificate_too_long, file_failed, not_json, not_report, not_words, rejected, too_many_bytes, too_many_nodes, too_many_states}
+use Rattle.certificate.specs.declared.faults.CertFault.{CertFault}
+use Rattle.certificate.specs.declared.faults.CertFault.TheVariants as cert
+use Rattle.cert_check.specs.declared.faults.CheckFault.{CheckFault}
+use Rattle.cert_check.specs.declared.faults.CheckFault.TheVariants as check
 use Rattle.outside.specs.declared.fault.OutsideFault.{OutsideFault}
 use Rattle.outside.specs.declared.fault.OutsideFault.TheVariants as report
+use Rattle.outside.specs.declared.fault.ReadFault.{ReadFault}
+use Rattle.outside.specs.declared.fault.ReadFault.TheVariants as read
+use Rattle.report_json.specs.declared.faults.JsonFault.{JsonFault}
+use Rattle.report_json.specs.declared.faults.JsonFault.TheVariants as json
 use Rattle.dict_files.specs.Loading.{load_refusal}
 use Rattle.dict_files.specs.declared.faults.LoadFault.{LoadFault}
 use Rattle.dict_files.specs.declared.faults.LoadFault.TheVariants as load
@@ -27,6 +35,13 @@ stop_of of.Arguments = by_refusal not_words
 stop_of (of.Dictionaries fault) = by_refusal (load_refusal fault)
 stop_of (of.Nodes count) = by_refusal (too_many_nodes count)
 stop_of (of.States count) = by_refusal (too_many_states count)
+stop_of of.Certificate = by_refusal certificate_failed
+stop_of of.CertificateLong = by_refusal certificate_too_long
+stop_of (of.Rejected at why) = by_refusal (rejected at why)
+stop_of of.ReportFailed = by_refusal (file_failed 1)
+stop_of of.ReportLong = by_refusal (too_many_bytes 1)
+stop_of of.NotJson = by_refusal (not_json 1)
+stop_of of.NotReport = by_refusal (not_report 1)
 stop_of of.Output = by_output
 stop_of of.Memory = by_memory
 
@@ -55,3 +70,25 @@ refusal_of_numbers numbers.Memory = of.Memory
 abbrev pub refusal_of_report : OutsideFault → Refusal
 refusal_of_report report.Failed = of.Output
 refusal_of_report report.Memory = of.Memory
+
+abbrev pub refusal_of_read : ReadFault → Refusal
+refusal_of_read read.Failed = of.ReportFailed
+refusal_of_read read.TooLong = of.ReportLong
+refusal_of_read read.Memory = of.Memory
+
+abbrev pub refusal_of_json : JsonFault → Refusal
+refusal_of_json json.NotJson = of.NotJson
+refusal_of_json json.NotReport = of.NotReport
+refusal_of_json json.Memory = of.Memory
+
+abbrev pub refusal_of_cert : CertFault → Refusal
+refusal_of_cert cert.Failed = of.Certificate
+refusal_of_cert cert.TooLong = of.CertificateLong
+refusal_of_cert cert.Memory = of.Memory
+refusal_of_cert (cert.Bad line) = of.Certificate
+
+abbrev pub refusal_of_check : CheckFault → Refusal
+refusal_of_check (check.Rejected line why) = of.Rejected line why
+refusal_of_check check.Failed = of.Certificate
+refusal_of_check check.TooLong = of.CertificateLong
+refusal_of_check check.Memory = of.Memory

@@ -16,7 +16,7 @@ use Rattle.cert_check.specs.declared.faults.CheckFault.{CheckFault}
 use Rattle.cert_check.specs.declared.faults.CheckFault.TheVariants as fault
 use Rattle.cert_check.specs.declared.founds.Found.{Found}
 use Rattle.cert_check.specs.inside.Left.{AreLeft, FailsWith}
-use Rattle.cert_check.specs.inside.Reading.{IsReadTo}
+use Rattle.cert_check.specs.Reading.{IsReadTo}
 
 -- each pair, with the least distance of its listed hits
 abbrev pub AreFound : Closure → List Listed → List Pair → List Found → Type 0

@@ -17,7 +17,7 @@ use Rattle.certificate_laws.specs.Validity.{content_check, listed_on_lines, list
 use Rattle.cert_check.specs.declared.upper.Upper.{Upper}
 use Rattle.cert_check.specs.inside.Left.{AreLeft}
 use Rattle.cert_check.specs.inside.Places.{places_from, ends_listed}
-use Rattle.cert_check.specs.inside.Reading.{IsReadTo}
+use Rattle.cert_check.specs.Reading.{IsReadTo}
 
 -- each line but the first three lists a state, and the last place isn't empty
 pub record IsSound (entries : List (List ℕ)) (u : Upper) : Type 0 where

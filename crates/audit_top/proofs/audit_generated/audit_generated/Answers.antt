@@ -1,5 +1,5 @@
 use Rattle.std.proofs.lemmas.Result.{err_from_is_err_and}
-use Rattle.audit_top.specs.Expected.{generated_stack}
+use Rattle.audit_top.specs.Audited.{generated_stack}
 use Rattle.audit_top.proofs.GeneratedStacks.{of-stack, stack-stopped}
 use Rattle.audit_top.proofs.audit_generated.audit_generated.Goals as goal
 

@@ -1,6 +1,7 @@
 use Rattle.std.proofs.Common.{◌∙◌, ap, refl}
 use Rattle.std.proofs.lemmas.Result.{err_from_is_err_and}
-use Rattle.audit_top.specs.Expected.{IsGenerated, prints}
+use Rattle.audit_top.specs.Outcomes.{prints}
+use Rattle.audit_top.specs.Translated.{IsGenerated}
 use Rattle.audit_top.specs.declared.status.Status.TheVariants.{Clean}
 use Rattle.audit_top.proofs.Stops.{put-stopped, put-whole, ran-out}
 use Rattle.audit_top.proofs.generate.generate.Goals as goal

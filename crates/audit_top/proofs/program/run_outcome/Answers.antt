@@ -1,6 +1,6 @@
 use Rattle.std.proofs.Common.{None, drop, map, string_bytes}
 use Rattle.std.specs.Vec.Iter.{into_iter_items}
-use Rattle.audit_top.specs.Commands.{command_of}
+use Rattle.commands.specs.Reading.{command_of}
 use Rattle.audit_top.specs.Runs.{output}
 use Rattle.audit_top.proofs.Ends.{memory-run}
 use Rattle.audit_top.proofs.program.run_outcome.Goals as goal

@@ -2,7 +2,8 @@ use Rattle.std.proofs.Common.{Some, ◌∙◌, ap, ap₂, refl, sym}
 use Rattle.std.proofs.lemmas.Result.{err_from_is_err_and}
 use Rattle.stroke.specs.Pieces.{pieces}
 use Rattle.report.specs.Replays.{pieces_text}
-use Rattle.audit_top.specs.Expected.{IsReplay, prints}
+use Rattle.audit_top.specs.Outcomes.{prints}
+use Rattle.audit_top.specs.Translated.{IsReplay}
 use Rattle.audit_top.specs.declared.status.Status.TheVariants.{Clean}
 use Rattle.audit_top.proofs.Reports.{replay-is, strokes-stopped}
 use Rattle.audit_top.proofs.Stops.{put-stopped, put-whole}

@@ -1,6 +1,6 @@
 use Rattle.std.proofs.Common.{Some, refl}
-use Rattle.audit_top.specs.Commands.{audit_generated}
-use Rattle.audit_top.specs.Expected.{IsAuditGenerated}
+use Rattle.commands.specs.Commands.{audit_generated}
+use Rattle.audit_top.specs.Audited.{IsAuditGenerated}
 use Rattle.audit_top.proofs.Stacks.{without-files}
 use Rattle.audit_top.proofs.top.answer_command.Goals as goal
 

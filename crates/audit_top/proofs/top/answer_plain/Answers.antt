@@ -1,6 +1,6 @@
 use Rattle.std.proofs.Common.{Some, refl}
-use Rattle.audit_top.specs.Commands.{generate}
-use Rattle.audit_top.specs.Expected.{IsGenerated}
+use Rattle.commands.specs.Commands.{generate}
+use Rattle.audit_top.specs.Translated.{IsGenerated}
 use Rattle.audit_top.proofs.Stacks.{without-files}
 use Rattle.audit_top.proofs.top.answer_plain.Goals as goal
 

@@ -1,31 +1,26 @@
-use Rattle.std.proofs.Common.{option_map, subst}
-use Rattle.audit_top.specs.Commands.{command_view}
-use Rattle.audit_top.specs.Runs.{IsRun, output}
-use Rattle.audit_top.proofs.Ends.{run-finished}
-use Rattle.audit_top.proofs.Headlines.{headline}
-use Rattle.audit_top.proofs.Stacks.{at}
-use Rattle.audit_top.proofs.Written.{read-written}
+use Rattle.audit_top.proofs.Headlines.{explains, headline, keeps, lists, reads, tells, upgrades, verifies}
 use Rattle.audit_top.proofs.top.run.Goals as goal
 
-pub answer_given-answered-requires : goal.answer_given-answered-requires
-answer_given-answered-requires g c = (c.type_bounds.sync-R, (c.type_bounds.sync-K, read-written c.args.args.now c.read_words.result c.requires c.read_words.ensures))
-
-pub returns-clause-run : goal.returns-clause-run
-returns-clause-run g c =
-    let before = at (g.F.Files.view c.args.files.now) (output (g.S.Sink.text c.args.out.now) (g.S.Sink.faults c.args.out.now)) in
-    let files = g.F.Files.view c.answer_given-answered.new.files in
-    let mid = output (g.S.Sink.text c.answer_given-answered.new.out) (g.S.Sink.faults c.answer_given-answered.new.out) in
-    let after = output (g.S.Sink.text c.finish.new.out) (g.S.Sink.faults c.finish.new.out) in
-    let run = subst (λ o. IsRun o before (at files after) c.finish.result) c.read_words.ensures
-    (run-finished (option_map command_view c.read_words.result) before files mid after c.answer_given-answered.result c.finish.result c.answer_given-answered.ensures c.finish.ensures) in
-    run
-
 pub returns-clause-headline : goal.returns-clause-headline
-returns-clause-headline g c =
-    let before = at (g.F.Files.view c.args.files.now) (output (g.S.Sink.text c.args.out.now) (g.S.Sink.faults c.args.out.now)) in
-    let files = g.F.Files.view c.answer_given-answered.new.files in
-    let mid = output (g.S.Sink.text c.answer_given-answered.new.out) (g.S.Sink.faults c.answer_given-answered.new.out) in
-    let after = output (g.S.Sink.text c.finish.new.out) (g.S.Sink.faults c.finish.new.out) in
-    let run = subst (λ o. IsRun o before (at files after) c.finish.result) c.read_words.ensures
-    (run-finished (option_map command_view c.read_words.result) before files mid after c.answer_given-answered.result c.finish.result c.answer_given-answered.ensures c.finish.ensures) in
-    headline _ before (at files after) c.finish.result run
+returns-clause-headline g c = headline _ _ _ _ c.run_given.ensures
+
+pub returns-clause-explains : goal.returns-clause-explains
+returns-clause-explains g c = explains _ _ _ _ c.run_given.ensures
+
+pub returns-clause-verifies : goal.returns-clause-verifies
+returns-clause-verifies g c = verifies _ _ _ _ c.run_given.ensures
+
+pub returns-clause-lists : goal.returns-clause-lists
+returns-clause-lists g c = lists _ _ _ _ c.run_given.ensures
+
+pub returns-clause-upgrades : goal.returns-clause-upgrades
+returns-clause-upgrades g c = upgrades _ _ _ _ c.run_given.ensures
+
+pub returns-clause-tells : goal.returns-clause-tells
+returns-clause-tells g c = tells _ _ _ _ c.run_given.ensures
+
+pub returns-clause-keeps : goal.returns-clause-keeps
+returns-clause-keeps g c = keeps _ _ _ _ c.run_given.ensures
+
+pub returns-clause-reads : goal.returns-clause-reads
+returns-clause-reads g c = reads _ _ _ _ c.run_given.ensures

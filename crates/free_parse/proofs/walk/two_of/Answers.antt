@@ -1,10 +1,7 @@
-use Rattle.std.proofs.Common.{◌-◌, ◌/◌, ◌%◌, ◌∙◌, map, ap, subst, sym, arith}
-use Rattle.reading_laws.specs.ChosenReadings.{open_fork}
-use Rattle.free_parse.specs.FoundReadings.{AreChosenTwo, AreFewest}
-use Rattle.free_parse.specs.inside.Halves.{AreNumbersOf, ended_after}
+use Rattle.std.proofs.Common.{◌-◌, ◌/◌, ◌%◌, subst, sym, arith}
+use Rattle.free_parse.specs.FoundReadings.{AreBothNumbers, AreChosenTwo, AreFewest}
 use Rattle.free_parse.specs.inside.Walks.{IsShortestWalkTo}
-use Rattle.closure_laws.specs.Examples.{trail}
-use Rattle.free_parse.proofs.WalkLemmas.{reached_end, read_are}
+use Rattle.free_parse.proofs.WalkLemmas.{reached_end, word_read}
 use Rattle.free_parse.proofs.walk.two_of.Goals as goal
 
 pub overflow_sub-strokes : goal.overflow_sub-strokes
@@ -20,17 +17,20 @@ walk_back-requires c =
 pub returns-clause-fewest : goal.returns-clause-fewest
 returns-clause-fewest c =
     let g = c.args.graph.now in
-    let n = c.args.word / 4294967296 in
     let h = reached_end g c.args.table.now c.args.word c.requires.words c.requires.few c.requires.settled c.requires.word c.requires.reached in
-    let path = c.in_ok-path.ensures ∙ ap (λ w. trail c.args.table.now (n - 1) (w % 4294967296)) c.requires.word in
-    let numbers = subst (λ l. AreNumbersOf g.entries (ended_after g.words (map (open_fork g.entries g.words) l)) c.in_ok-halves.halves) path c.in_ok-halves.ensures in
-    subst (AreFewest g.entries g.words) (sym c.new.ensures) (read_are g c.args.table.now n (n - 1) c.in_ok-halves.halves h numbers).fewest
+    let read = word_read g c.args.table.now c.args.word c.in_ok-path.path.items c.in_ok-halves.halves h c.requires.word c.in_ok-path.ensures c.in_ok-halves.ensures in
+    subst (AreFewest g.entries g.words) (sym c.new.ensures) read.fewest
 
 pub returns-clause-chosen : goal.returns-clause-chosen
 returns-clause-chosen c =
     let g = c.args.graph.now in
-    let n = c.args.word / 4294967296 in
     let h = reached_end g c.args.table.now c.args.word c.requires.words c.requires.few c.requires.settled c.requires.word c.requires.reached in
-    let path = c.in_ok-path.ensures ∙ ap (λ w. trail c.args.table.now (n - 1) (w % 4294967296)) c.requires.word in
-    let numbers = subst (λ l. AreNumbersOf g.entries (ended_after g.words (map (open_fork g.entries g.words) l)) c.in_ok-halves.halves) path c.in_ok-halves.ensures in
-    subst (AreChosenTwo g.entries g.words c.args.table.now) (sym c.new.ensures) (read_are g c.args.table.now n (n - 1) c.in_ok-halves.halves h numbers).chosen
+    let read = word_read g c.args.table.now c.args.word c.in_ok-path.path.items c.in_ok-halves.halves h c.requires.word c.in_ok-path.ensures c.in_ok-halves.ensures in
+    subst (AreChosenTwo g.entries g.words c.args.table.now) (sym c.new.ensures) read.chosen
+
+pub returns-clause-numbers : goal.returns-clause-numbers
+returns-clause-numbers c =
+    let g = c.args.graph.now in
+    let h = reached_end g c.args.table.now c.args.word c.requires.words c.requires.few c.requires.settled c.requires.word c.requires.reached in
+    let read = word_read g c.args.table.now c.args.word c.in_ok-path.path.items c.in_ok-halves.halves h c.requires.word c.in_ok-path.ensures c.in_ok-halves.ensures in
+    subst (AreBothNumbers g.entries) (sym c.new.ensures) read.numbers

@@ -1,0 +1,37 @@
+use Rattle.std.proofs.Common.{◌≡◌, ◌≤◌, ◌∙◌, length, subst}
+use Rattle.std.proofs.lemmas.Result.{err_from_is_err_and}
+use Rattle.steno_rules.specs.Nodes.{nodes}
+use Rattle.audit_top.specs.Outcomes.{UnlessRefused, search_limit}
+use Rattle.audit_top.specs.Kept.{IsSettled}
+use Rattle.outline_trie.specs.declared.trie.TheConstants.Trie.{MAX_NODES}
+use Rattle.steno_rules.specs.StateNumbers.{number_count}
+use Rattle.state_numbering.specs.Causes.{most_states}
+use Rattle.audit_top.proofs.Reports.{numbers-stopped, search-within}
+use Rattle.audit_top.proofs.Stops.{answers-weaker, ran-out, unless-none}
+use Rattle.audit_top.proofs.settled.settled_stack.Goals as goal
+
+pub returns-in_err-windows : goal.returns-in_err-windows
+returns-in_err-windows g c =
+    let p = err_from_is_err_and c.from_residual-in_err-windows.result c.from_residual-in_err-windows.ensures.1 in
+    ran-out _ _ _ p.0 p.1 p.2
+
+pub returns-in_err-words : goal.returns-in_err-words
+returns-in_err-words g c =
+    let p = err_from_is_err_and c.from_residual-in_err-words.result c.from_residual-in_err-words.ensures.1 in
+    ran-out _ _ _ p.0 p.1 p.2
+
+pub returns-in_err-numbering : goal.returns-in_err-numbering
+returns-in_err-numbering g c =
+    let p = err_from_is_err_and c.from_residual-in_err-numbering.result c.from_residual-in_err-numbering.ensures.1 in
+    let within : length (nodes c.args.stack.now.outlines) ≤ MAX_NODES = subst (λ es. length (nodes es) ≤ MAX_NODES) c.outlines.ensures.outlines c.in_ok-trie.ensures.within in
+    numbers-stopped (IsSettled c.args.stack.now) c.args.stack.now _ _ p.0 c.in_err-numbering.field-0.0 c.in_ok-trie.trie (c.in_ok-trie.ensures.built ∙ c.outlines.ensures.outlines) within c.in_err-numbering.ensures.cause p.1 p.2
+
+pub returns : goal.returns
+returns g c =
+    let stack = c.args.stack.now in
+    let built : c.in_ok-trie.trie ≡ stack.outlines = c.in_ok-trie.ensures.built ∙ c.outlines.ensures.outlines in
+    let within : length (nodes stack.outlines) ≤ MAX_NODES = subst (λ es. length (nodes es) ≤ MAX_NODES) c.outlines.ensures.outlines c.in_ok-trie.ensures.within in
+    let few : number_count stack.outlines ≤ most_states = subst (λ es. number_count es ≤ most_states) built c.in_ok-numbering.ensures.within in
+    let May = IsSettled stack in
+    answers-weaker May (UnlessRefused (search_limit stack) May) _ _ _
+    (unless-none (search_limit stack) May (search-within stack within few)) c.settled_numbered.ensures

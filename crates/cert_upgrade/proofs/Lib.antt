@@ -1,0 +1,11 @@
+pub mod RunJoins
+pub mod FormAnswers
+pub mod FormStages
+pub mod Sizes
+pub mod UpperReading
+pub mod Shapes
+pub mod RowReading
+pub mod AddedLines
+pub mod Contents
+pub mod NewForm
+pub mod UpgradeLaw

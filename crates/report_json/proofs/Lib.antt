@@ -1,0 +1,13 @@
+pub mod RowTexts
+pub mod JsonRows
+pub mod CanonicalTexts
+pub mod NoFloats
+pub mod Refusals
+pub mod PartsOf
+pub mod SameReports
+pub mod RowAdded
+pub mod AsciiTexts
+pub mod ReadBack
+pub mod Decided
+pub mod InnerPlaces
+pub mod Examples

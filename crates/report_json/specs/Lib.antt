@@ -1,0 +1,5 @@
+pub mod JsonFaults
+pub mod ReadOutcomes
+pub mod JsonReports
+pub mod JsonLines
+pub mod inside

@@ -1,0 +1,10 @@
+pub mod KeepLemmas
+pub mod WayLemmas
+pub mod FinishLemmas
+pub mod NearLemmas
+pub mod SumLemmas
+pub mod FirstSums
+pub mod FoundRows
+pub mod RowSteps
+pub mod AtStack
+pub mod RowsOnce

@@ -1,0 +1,4 @@
+pub mod Near
+pub mod Ways
+pub mod Sums
+pub mod FoundRows
