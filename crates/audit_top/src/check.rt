@@ -46,10 +46,12 @@ fn check_numbered<F: Files, S: Sink>(
     alloc: Global,
     certificate: &str,
     stack: &Stack,
+    trie: &Trie,
     numbering: &Numbering<'_>,
     files: &mut F,
     out: &mut S,
 ) -> Result<Status, Refusal>
+    requires trie { trie.now ≡ stack.now.outlines }
     requires entries { numbering.now.entries ≡ stack.now.outlines }
     requires words { numbering.now.words ≡ words_in_stack stack.now }
     ensures { let before = world (F.view files.old) (S.text out.old) (S.faults out.old) in
@@ -57,7 +59,7 @@ fn check_numbered<F: Files, S: Sink>(
         Goes certificate_failed None (reads_only certificate.now) (λ file. IsCheck file stack.now)
         before after result }
 {
-    let done = cert_check::check(alloc, stack, numbering, files, certificate)?;
+    let done = cert_check::check(alloc, stack, trie, numbering, files, certificate)?;
     write_accepted(alloc, out, done.conflicts)?;
     Ok(Status::Clean)
 }
@@ -79,7 +81,7 @@ fn check_stack<F: Files, S: Sink>(
     let windows = Windows::new(alloc, &trie)?;
     let words = WordSet::new(alloc, &trie, stack.words())?;
     let numbering = Numbering::new(alloc, &trie, &windows, &words)?;
-    check_numbered(alloc, certificate, stack, &numbering, files, out)
+    check_numbered(alloc, certificate, stack, &trie, &numbering, files, out)
 }
 
 /// The check of a certificate against the dictionaries that the arguments name.

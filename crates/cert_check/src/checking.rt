@@ -14,6 +14,7 @@ use crate::rows::{read_end, read_rows};
 use crate::top::read_upper;
 use certificate::{CertFault, CertReader};
 use dict_stack::Stack;
+use outline_trie::Trie;
 use outside::Files;
 use state_numbering::Numbering;
 use std::alloc::Global;
@@ -37,10 +38,12 @@ fn begin<F: Files>(alloc: Global, files: &mut F, name: &str) -> Result<CertReade
 fn check_lines<F: Files>(
     alloc: Global,
     stack: &Stack,
+    trie: &Trie,
     numbering: &Numbering<'_>,
     files: &mut F,
     reader: &mut CertReader,
 ) -> Result<CheckDone, CheckFault>
+    requires trie { trie.now ≡ stack.now.outlines }
     requires over { numbering.now ≡ numbering_at stack.now }
     requires begun { reader.old ≡ new_reader certificate_limit }
     ensures done { IfOk result (λ done. WhereTold (ahead reader.old (F.view files.old))
@@ -58,7 +61,7 @@ fn check_lines<F: Files>(
         Ok(founds) => founds,
         Err(fault) => return Err(fault),
     };
-    if let Err(fault) = read_rows(alloc, stack, &founds, files, reader) {
+    if let Err(fault) = read_rows(alloc, stack, trie, &founds, files, reader) {
         return Err(fault);
     }
     match read_end(files, reader) {
@@ -73,10 +76,12 @@ fn check_lines<F: Files>(
 fn checked<F: Files>(
     alloc: Global,
     stack: &Stack,
+    trie: &Trie,
     numbering: &Numbering<'_>,
     files: &mut F,
     name: &str,
 ) -> Result<CheckDone, CheckFault>
+    requires trie { trie.now ≡ stack.now.outlines }
     requires over { numbering.now ≡ numbering_at stack.now }
     ensures done { IfOk result (λ done. IfSome (F.view files.old).held (λ held.
         check_outcome (closure_at stack.now) (held name.now) ≡ accepted done.conflicts)) }
@@ -89,21 +94,24 @@ fn checked<F: Files>(
         Ok(reader) => reader,
         Err(fault) => return Err(fault),
     };
-    check_lines(alloc, stack, numbering, files, &mut reader)
+    check_lines(alloc, stack, trie, numbering, files, &mut reader)
 }
 
 /// Whether the file is a valid certificate for the entries and words of the stack.
 ///
 /// What is accepted is valid by the definition, with all targets, and its rows are the conflicts. What is rejected is not,
 /// and the first check that fails is told. A fault, the limit and memory are told at the place in the file at which they are
-/// met: a rejection at an earlier place comes before them. The file is read once.
+/// met: a rejection at an earlier place comes before them. The file is read once. The trie is that of the stack's entries.
+/// The cost is linear in the file and in the states' moves, and for each row in its strokes.
 pub fn check<F: Files>(
     alloc: Global,
     stack: &Stack,
+    trie: &Trie,
     numbering: &Numbering<'_>,
     files: &mut F,
     name: &str,
 ) -> Result<CheckDone, CheckFault>
+    requires trie { trie.now ≡ stack.now.outlines }
     requires entries { numbering.now.entries ≡ stack.now.outlines }
     requires words { numbering.now.words ≡ flagged_entries stack.now.outlines stack.now.words }
     ensures done { IfOk result (λ done. IfSome (F.view files.old).held (λ held.
@@ -114,5 +122,5 @@ pub fn check<F: Files>(
         (F.view files.old) (F.view files.new) }
 {
     let _outlines = stack.outlines();
-    checked(alloc, stack, numbering, files, name)
+    checked(alloc, stack, trie, numbering, files, name)
 }

@@ -15,10 +15,12 @@ use crate::founds::Found;
 use crate::reading::required_line;
 use certificate::{CertFault, CertLine, CertReader};
 use dict_stack::Stack;
-use longest_match::{Conflict, shows};
+use longest_match::Conflict;
+use outline_trie::Trie;
 use outside::Files;
 use report::Why;
 use std::alloc::{AllocError, Global};
+use translator::shows;
 
 /// No conflict has so many strokes: there are fewer numbers of states.
 const FAR: u32 = 67_108_864;
@@ -67,10 +69,12 @@ fn is_of_pair(found: Found, row: &Conflict) -> bool
 pub(crate) fn is_row_for(
     alloc: Global,
     stack: &Stack,
+    trie: &Trie,
     found: Found,
     row: &Conflict,
 ) -> Result<bool, AllocError>
-    requires { found.entry < length stack.now.outlines }
+    requires trie { trie.now ≡ stack.now.outlines }
+    requires entry { found.entry < length stack.now.outlines }
     ensures { IfOk result (IsRowTest (closure_at stack.now) found row.now) }
 {
     if !is_of_pair(found, row) {
@@ -81,6 +85,7 @@ pub(crate) fn is_row_for(
     }
     shows(
         alloc,
+        trie,
         stack.outlines(),
         row.words(),
         found.entry,
@@ -92,10 +97,12 @@ pub(crate) fn is_row_for(
 fn read_row<F: Files>(
     alloc: Global,
     stack: &Stack,
+    trie: &Trie,
     found: Found,
     files: &mut F,
     reader: &mut CertReader,
 ) -> Result<(), CheckFault>
+    requires trie { trie.now ≡ stack.now.outlines }
     requires entry { found.entry < length stack.now.outlines }
     requires limit { reader.old.limit ≡ certificate_limit }
     ensures read { IfOk result (λ _. (all : List Listed) (bytes : List ℕ) (others : List Found)
@@ -120,7 +127,7 @@ fn read_row<F: Files>(
             why: Why::Form,
         });
     };
-    match is_row_for(alloc, stack, found, &conflict) {
+    match is_row_for(alloc, stack, trie, found, &conflict) {
         Ok(true) => Ok(()),
         Ok(false) => Err(CheckFault::Rejected {
             line: reader.lines(),
@@ -134,10 +141,12 @@ fn read_row<F: Files>(
 pub(crate) fn read_rows<F: Files>(
     alloc: Global,
     stack: &Stack,
+    trie: &Trie,
     founds: &[Found],
     files: &mut F,
     reader: &mut CertReader,
 ) -> Result<(), CheckFault>
+    requires trie { trie.now ≡ stack.now.outlines }
     requires entries { All (λ f. f.entry < length stack.now.outlines) founds.now }
     requires limit { reader.old.limit ≡ certificate_limit }
     ensures read { IfOk result (λ _. (all : List Listed) (bytes : List ℕ)
@@ -153,7 +162,7 @@ pub(crate) fn read_rows<F: Files>(
     ensures takes { OnlyTakes (is_check_failed result) (F.view files.old) (F.view files.new) }
 {
     for found in founds {
-        match read_row(alloc, stack, *found, files, reader) {
+        match read_row(alloc, stack, trie, *found, files, reader) {
             Ok(()) => {}
             Err(fault) => return Err(fault),
         }

@@ -52,7 +52,7 @@ fn answer(
     files
         .add("c.txt", certificate.as_bytes())
         .expect(rt, "memory");
-    check(alloc, stack, &numbering, &mut files, "c.txt")
+    check(alloc, stack, &trie, &numbering, &mut files, "c.txt")
 }
 
 /// A change a line: the version, a part of its certificate, what stands in that place, and the line and the reason of the
