@@ -1,8 +1,8 @@
 -- The least distance of each pair, one place after another.
-use Rattle.std.proofs.Common.{◌≡◌, ◌≢◌, ℕ, zero, suc, ◌+◌, ◌-◌, ◌<◌, ◌≤◌, List, [], ◌∷◌, ◌++◌, length, map, filter, refl, sym, ap, subst, arith, Bool, true, false, cond, ◌∙◌, Option, Some, None, get_or, inl, inr, ◌⊎◌, append-nil, min, take, replicate}
+use Rattle.std.proofs.Common.{◌≡◌, ◌≢◌, ℕ, zero, suc, ◌+◌, ◌-◌, ◌<◌, ◌≤◌, List, [], ◌∷◌, ◌++◌, length, map, filter, refl, sym, ap, subst, arith, Bool, true, false, cond, ◌∙◌, Option, Some, None, get_or, inl, inr, append-nil, min, take, replicate}
 use Rattle.std.specs.Prelude.{◌&&◌, ◌||◌, ◌==◌, nat_le, option_and_then, slice_set}
 use Rattle.std.specs.List.{list_all, list_any}
-use Rattle.std.proofs.lemmas.Bool.{eqb-true, eq-eqb, le-leb, leb-true, cases_lt, cases_order}
+use Rattle.std.proofs.lemmas.Bool.{eqb-true, eq-eqb, le-leb, leb-true, cases_lt, cases_eq}
 use Rattle.std.proofs.lemmas.List.{map-append, length-set, get_or-set_same, get_or-set_other, take_all}
 use Rattle.std.proofs.lemmas.List.Elements.{filter-append}
 use Rattle.std.proofs.lemmas.List.Folds.{list_all-append, list_any-append}
@@ -111,13 +111,6 @@ least_without v state distance slots none flags words all least = record {
     no_pair : (closure_of v.entries flags).hit state ≡ None
     no_pair = ap (λ ws. option_and_then (hit_pair v.entries) (state_of_number v.entries ws state)) (sym words) ∙ by (state_of_number v.entries v.words state) refl
 
-same_or_not : (a b : ℕ) → (a ≡ b) ⊎ (a ≢ b)
-same_or_not a b = elim (cases_order a b) [
-  | inl is ↦ inl is
-  | inr (inl lt) ↦ inr (λ is. omega (arith, lt, is))
-  | inr (inr gt) ↦ inr (λ is. omega (arith, gt, is))
-]
-
 pair_differs : (p q : Pair) → ((p.entry ≡ q.entry) → (p.place ≡ q.place) → ⊥) → is_pair p (Some q) ≡ false
 pair_differs p q apart = by (p.entry == q.entry) refl (p.place == q.place) refl
   where
@@ -132,7 +125,7 @@ pub least_hit : (v : NumberingView) (state distance slot : ℕ) (h : Hit) (slots
     ForClosures v (λ closure. (all : List Listed) → AreLeast closure all slots → AreLeast closure (all ++ record { state = state; distance = distance } ∷ []) new)
 least_hit v state distance slot h slots new are hit at long here others flags words all least = record {
   count = long ∙ least.count;
-  each = λ e place inside. elim (same_or_not (slot_of v.entries e place) slot) [
+  each = λ e place inside. elim (cases_eq (slot_of v.entries e place) slot) [
     | inl same ↦
         let pair = slots_apart v.entries e place h.entry h.place inside it_inside (same ∙ at) in
         subst (λ f. IsLeastOf (slot_distance v.entries new f place) (hit_distances closure (all ++ s ∷ []) (record { entry = f; place = place }))) (sym pair.0)

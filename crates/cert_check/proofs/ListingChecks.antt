@@ -22,7 +22,7 @@ use Rattle.certificate_laws.specs.Closures.{Closure, closure_of, kept_numbers}
 use Rattle.certificate_laws.specs.Validity.{is_listed_within, leads_on_by, listed_on_lines, move_checks_of, move_checks, hit_distances, is_row_of, listed_pairs, listing_checks}
 use Rattle.certificate_laws.specs.inside.Holding.{AllHold}
 use Rattle.certificate_laws.specs.inside.OnLines.{state_on_line}
-use Rattle.certificate_laws.proofs.HoldLemmas.{both, list_all_in, list_any_in}
+use Rattle.certificate_laws.proofs.HoldLemmas.{both, list_all_in, list_any_in, AllHold-join}
 use Rattle.certificate_laws.proofs.KeptMoves.{leads_by_kept, fresh_by_kept}
 use Rattle.certificate_laws.proofs.ListingLemmas.{on_lines-listed, is_listing, listing}
 use Rattle.certificate_laws.proofs.ConflictRows.{row_says, listed_row}
@@ -71,10 +71,6 @@ row_past : (lists : List (List ℕ)) (n : ℕ) → length lists ≤ n → row li
 row_past [] n le = refl
 row_past (x ∷ xs) zero le = absurd (omega (arith, le))
 row_past (x ∷ xs) (suc n) le = row_past xs n (omega (arith, le))
-
-AllHold-join : (xs ys : List Check) → AllHold xs → AllHold ys → AllHold (xs ++ ys)
-AllHold-join [] ys a b = b
-AllHold-join (x ∷ xs) ys a b = (a.0, AllHold-join xs ys a.1 b)
 
 module _ (entries : List (List ℕ)) (flags : List Bool) (places : List Place) (all : List Listed) where
   abbrev words : List (List ℕ)

@@ -18,6 +18,7 @@ use Rattle.certificate_laws.specs.Validity.{hit_distances, is_least_of, is_row_o
 use Rattle.certificate_laws.proofs.ConflictRows.{row_says}
 use Rattle.certificate_laws.proofs.HoldLemmas.{both, both_back, list_all_in, list_any_in}
 use Rattle.certificate_laws.proofs.RowTests.{words_show-Decides}
+use Rattle.std.proofs.Math.Bool.{and-false}
 use Rattle.cert_check.specs.declared.founds.Found.{Found}
 use Rattle.cert_check.specs.inside.Founds.{HasNoFarRow}
 use Rattle.cert_check.specs.inside.RowAnswers.{IsRowTest, are_such_words, is_of_pair, pair_of}
@@ -188,16 +189,12 @@ differs a b lt = by (a == b) refl
     by true e = absurd (let same = eqb-true a b e in omega (arith, same, lt))
     by false e = refl
 
-and_false : (b : Bool) → (b && false) ≡ false
-and_false true = refl
-and_false false = refl
-
 -- More strokes than there may be.
 pub such_long : (closure : Closure) (ws : List ℕ) (i sum most w new : ℕ) → i < length ws → w ≡ get_or ws i w → new ≡ sum + length (outline_of closure.outlines w) → most < new → AreSuchSoFar closure ws i sum most → are_such_words closure ws most ≡ false
 such_long closure ws i sum most w new below is new_is long h =
     let more = such_more closure ws i sum most w below is h in
     let up = strokes_up closure.outlines ws (i + 1) in
-    ap (λ b. list_all (is_word_number closure) ws && b) (differs (length (joined_strokes closure.outlines ws)) most (omega (arith, more, up, new_is, long))) ∙ and_false (list_all (is_word_number closure) ws)
+    ap (λ b. list_all (is_word_number closure) ws && b) (differs (length (joined_strokes closure.outlines ws)) most (omega (arith, more, up, new_is, long))) ∙ and-false (list_all (is_word_number closure) ws)
 
 -- All words.
 pub such_all : (closure : Closure) (ws : List ℕ) (i sum most : ℕ) → take i ws ≡ ws → AreSuchSoFar closure ws i sum most → are_such_words closure ws most ≡ (sum == most)

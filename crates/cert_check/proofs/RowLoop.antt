@@ -31,7 +31,8 @@ use Rattle.cert_check.proofs.ReadLemmas.{no_line, long_line, read_next, read_to_
 use Rattle.cert_check.proofs.StageLemmas.{stops_far, left_past, left_missing, stops_failing}
 use Rattle.std.proofs.Common.{drop_of_length-le, get_or}
 use Rattle.outside.specs.Files.{FilesView}
-use Rattle.cert_check.proofs.UpperLoop.{next_rest, if_some, takes_on, takes_none}
+use Rattle.certificate.proofs.Passing.{takes_same}
+use Rattle.cert_check.proofs.UpperLoop.{next_rest, if_some, takes_on}
 use Rattle.cert_check.proofs.AnswerLemmas.{no_le}
 
 -- the line behind those that were read
@@ -294,7 +295,7 @@ pub record IsReadingRows (closure : Closure) (first reader : ReaderView) (old no
   pub told : (all : List Listed) (bytes : List ℕ) → AtRows closure all bytes first.given first.lines founds (ahead first old) → AtRows closure all bytes reader.given reader.lines left_founds (ahead reader now)
 
 pub rows_begin : (closure : Closure) (first : ReaderView) (old : FilesView) (founds : List Found) → first.limit ≡ 4294967296 → IsReadingRows closure first first old old founds (drop 0 founds)
-rows_begin closure first old founds is = record { takes = takes_none old; limit = is; told = λ all bytes at. at }
+rows_begin closure first old founds is = record { takes = takes_same old; limit = is; told = λ all bytes at. at }
 
 pub drop_read : (xs : List Found) (i : ℕ) (x : Found) → i < length xs → x ≡ get_or xs i x → drop i xs ≡ x ∷ drop (i + 1) xs
 drop_read [] i x lt is = absurd (omega arith)

@@ -19,6 +19,7 @@ use Rattle.state_numbering.specs.Numberings.{NumberingView}
 use Rattle.certificate.specs.CertTexts.{Listed}
 use Rattle.certificate_laws.specs.Checks.{rise_above, may_be_listed}
 use Rattle.certificate_laws.specs.inside.OnLines.{state_on_line}
+use Rattle.std.proofs.Math.Bool.{and-false}
 use Rattle.cert_check.specs.declared.places.Place.{Place}
 
 pub places_from-append : (n : ℕ) (ps qs : List Place) → places_from n (ps ++ qs) ≡ places_from n ps ++ places_from (n + length ps) qs
@@ -81,10 +82,6 @@ below_all n s (p ∷ ps) le = by (p.line == 0) (below_all (n + 1) s ps (omega (a
     by true rest = rest
     by false rest = rw (lt-ltb n s (omega (arith, le)), rest) refl
 
-and_false : (b : Bool) → (b && false) ≡ false
-and_false true = refl
-and_false false = refl
-
 not_below : (n s : ℕ) → s ≤ n → nat_lt n s ≡ false
 not_below n s le = by (nat_lt n s) refl
   where
@@ -107,7 +104,7 @@ not_below_all n s (p ∷ q ∷ ps) ends le lt = elim (cases_lt n s) [
     by : (b : Bool) → list_all (λ o. nat_lt o.state s) (map state_on_line (places_from (n + 1) (q ∷ ps))) ≡ false →
         list_all (λ o. nat_lt o.state s) (map state_on_line (cond b (places_from (n + 1) (q ∷ ps)) ((p.line, record { state = n; distance = p.distance }) ∷ places_from (n + 1) (q ∷ ps)))) ≡ false
     by true rest = rest
-    by false rest = ap (λ c. nat_lt n s && c) rest ∙ and_false (nat_lt n s)
+    by false rest = ap (λ c. nat_lt n s && c) rest ∙ and-false (nat_lt n s)
 
     -- some place from n on isn't empty
     above : (n s : ℕ) (ps : List Place) → ends_listed ps ≡ true → s ≤ n → 0 < length ps → list_all (λ o. nat_lt o.state s) (map state_on_line (places_from n ps)) ≡ false
@@ -122,7 +119,7 @@ not_below_all n s (p ∷ q ∷ ps) ends le lt = elim (cases_lt n s) [
         more : (b : Bool) → list_all (λ o. nat_lt o.state s) (map state_on_line (places_from (n + 1) (q ∷ ps))) ≡ false →
             list_all (λ o. nat_lt o.state s) (map state_on_line (cond b (places_from (n + 1) (q ∷ ps)) ((p.line, record { state = n; distance = p.distance }) ∷ places_from (n + 1) (q ∷ ps)))) ≡ false
         more true rest = rest
-        more false rest = ap (λ c. nat_lt n s && c) rest ∙ and_false (nat_lt n s)
+        more false rest = ap (λ c. nat_lt n s && c) rest ∙ and-false (nat_lt n s)
 
     again : (b : Bool) → list_all (λ o. nat_lt o.state s) (map state_on_line (places_from (n + 1) (q ∷ ps))) ≡ false → nat_lt n s ≡ false →
         list_all (λ o. nat_lt o.state s) (map state_on_line (cond b (places_from (n + 1) (q ∷ ps)) ((p.line, record { state = n; distance = p.distance }) ∷ places_from (n + 1) (q ∷ ps)))) ≡ false
@@ -160,7 +157,7 @@ run_first entries words ps first last d ends le lt =
 run_known : (entries words : List (List ℕ)) (s n k d : ℕ) → s ≤ k → k < s + n → Known entries words k ≡ false → list_all (λ x. Known entries words x.state) (run_states s n d) ≡ false
 run_known entries words s zero k d le lt e = absurd (omega (arith, le, lt))
 run_known entries words s (suc n) k d le lt e = elim (cases_lt s k) [
-  | inl later ↦ ap (λ b. Known entries words s && b) (run_known entries words (s + 1) n k d (omega (arith, later)) (omega (arith, lt)) e) ∙ and_false (Known entries words s)
+  | inl later ↦ ap (λ b. Known entries words s && b) (run_known entries words (s + 1) n k d (omega (arith, later)) (omega (arith, lt)) e) ∙ and-false (Known entries words s)
   | inr here ↦ (let same : s ≡ k = omega (arith, le, here) in ap (λ b. b && list_all (λ x. Known entries words x.state) (run_states (s + 1) n d)) (ap (Known entries words) same ∙ e))
 ]
 
@@ -168,7 +165,7 @@ run_known entries words s (suc n) k d le lt e = elim (cases_lt s k) [
 pub run_unknown : (entries words : List (List ℕ)) (before : List Listed) (first last k d : ℕ) → first ≤ k → k ≤ last → Known entries words k ≡ false →
     may_be_listed (Known entries words) before (run_states first (last + 1 - first) d) ≡ false
 run_unknown entries words before first last k d le most e =
-    ap (λ b. rise_above before (run_states first (last + 1 - first) d) && b) (run_known entries words first (last + 1 - first) k d le (omega (arith, le, most)) e) ∙ and_false (rise_above before (run_states first (last + 1 - first) d))
+    ap (λ b. rise_above before (run_states first (last + 1 - first) d) && b) (run_known entries words first (last + 1 - first) k d le (omega (arith, le, most)) e) ∙ and-false (rise_above before (run_states first (last + 1 - first) d))
 
 -- and it is where neither is so
 pub run_right : (entries words : List (List ℕ)) (ps : List Place) (first last d : ℕ) → first ≤ last → length ps ≤ first → list_all (λ x. Known entries words x.state) (run_states first (last + 1 - first) d) ≡ true →

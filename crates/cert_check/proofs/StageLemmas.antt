@@ -24,6 +24,7 @@ use Rattle.cert_check.specs.declared.faults.CheckFault.{CheckFault}
 use Rattle.cert_check.specs.declared.faults.CheckFault.TheVariants as fault
 use Rattle.cert_check.specs.declared.upper.Upper.{Upper}
 use Rattle.certificate_laws.proofs.HoldLemmas.{both_back}
+use Rattle.std.proofs.Math.Bool.{and-false}
 use Rattle.cert_check.proofs.ReadLemmas.{Missing, bad, long, failed, memory, reached}
 
 -- each of these checks can be made
@@ -49,12 +50,8 @@ fails_passes most c e = ap (λ b. b && can_be_made most c) e
 pub stops_failing : (most : Option ℕ) (n : ℕ) (c : Check) (rest : List Check) → c.holds ≡ false → can_be_made most c ≡ true → outcome_by most n (first_failure most (c ∷ rest)) ≡ rejected c.line c.reason
 stops_failing most n c rest fails can = stops most n c rest (fails_passes most c fails) ∙ ap (λ b. cond b (rejected c.line c.reason) too_long) can
 
-and_false : (b : Bool) → (b && false) ≡ false
-and_false true = refl
-and_false false = refl
-
 pub stops_far : (most : Option ℕ) (n : ℕ) (c : Check) (rest : List Check) → can_be_made most c ≡ false → outcome_by most n (first_failure most (c ∷ rest)) ≡ too_long
-stops_far most n c rest far = stops most n c rest (ap (λ b. c.holds && b) far ∙ and_false c.holds) ∙ ap (λ b. cond b (rejected c.line c.reason) too_long) far
+stops_far most n c rest far = stops most n c rest (ap (λ b. c.holds && b) far ∙ and-false c.holds) ∙ ap (λ b. cond b (rejected c.line c.reason) too_long) far
 
 -- Where checks that can be made hold, those behind them are left.
 pub left_past : (closure : Closure) (bytes : List ℕ) (checks rest : List Check) → AllHold checks → AllReached (readable_lines certificate_limit bytes) checks → AreLeft closure bytes (checks ++ rest) → AreLeft closure bytes rest

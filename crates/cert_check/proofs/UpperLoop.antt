@@ -22,6 +22,7 @@ use Rattle.certificate.proofs.FirstLines.{read_lines-line}
 use Rattle.report.specs.declared.faults.Why.{Why}
 use Rattle.report.specs.declared.faults.Why.TheVariants as why
 use Rattle.steno_rules.specs.StateNumbers.{number_count}
+use Rattle.certificate.proofs.Passing.{takes_same}
 use Rattle.cert_check.specs.declared.faults.CheckFault.{CheckFault}
 use Rattle.cert_check.specs.declared.upper.Upper.{Upper}
 use Rattle.cert_check.proofs.ReadLemmas.{read_begin, read_next, missing}
@@ -40,9 +41,6 @@ takes_on b old mid new x y = record {
   where
     rose_later : (a b c : ℕ) → a ≤ b → Rose b c → Rose a c
     rose_later a b c le rose = omega (arith, le, rose)
-
-pub takes_none : (f : FilesView) → OnlyTakes false f f
-takes_none f = record { leaves = record { held = refl; writing = refl; opened = refl }; latest = refl; later = omega arith; rose = λ is. absurd (true≢false (sym is)); steady = λ is. refl }
 
 -- what is ahead behind a line that was given
 pub next_rest : (here there : Option (List ℕ)) (text rest : List ℕ) → here ≡ Some rest → here ≡ prepend_known text there → (next : List ℕ) × (there ≡ Some next) × (rest ≡ text ++ next)
@@ -72,7 +70,7 @@ pub record IsReadingUpper (entries : List (List ℕ)) (flags : List Bool) (first
 pub upper_start : (entries : List (List ℕ)) (flags : List Bool) (first : ReaderView) (old : FilesView) (u : Upper) → first ≡ new_reader certificate_limit →
     number_count entries ≤ 33554432 → u.lines ≡ 0 → u.places.items ≡ [] → IsReadingUpper entries flags first first old old u
 upper_start entries flags first old u is few lines places = record {
-  takes = takes_none old;
+  takes = takes_same old;
   limit = ap (λ (r : ReaderView). r.limit) is;
   lines = ap (λ (r : ReaderView). r.lines) is ∙ sym lines;
   sound = record {

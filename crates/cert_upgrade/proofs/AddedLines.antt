@@ -17,8 +17,9 @@ use Rattle.cert_check.specs.Verdicts.{IsFaultOf, is_check_failed, is_failing}
 use Rattle.cert_check.proofs.CheckLemmas.{told_of}
 use Rattle.cert_upgrade.specs.Forms.{upgrade_limit, upgrade_outcome}
 use Rattle.cert_check.specs.declared.faults.CheckFault.{CheckFault}
+use Rattle.audit_certificate.specs.Written.{lines_text, WritesFile}
 use Rattle.cert_upgrade.specs.Upgrades.{IsPartWritten, IsPrefixWritten, UpgradesFile, WritesUpgrade, upgraded_text}
-use Rattle.cert_upgrade.specs.inside.Puts.{IsCut, PutsAll, PutsPart, PutsText, WritesFile, lines_text}
+use Rattle.cert_upgrade.specs.inside.Puts.{IsCutOff, PutsWhole, PutsBeginning, PutsText}
 use Rattle.cert_upgrade.specs.inside.Stages.{IsWholeRead}
 
 -- ---- texts that are added
@@ -32,7 +33,7 @@ nothing_added None held = tt
 nothing_added (Some name) held = still_same held name
 
 -- Nothing is added.
-pub puts_none : (put : ℕ) (view : FilesView) → PutsAll [] put put view view
+pub puts_none : (put : ℕ) (view : FilesView) → PutsWhole [] put put view view
 puts_none put view = record {
   added = nothing_added view.writing view.held;
   count = (let e : put ≡ put + 0 = omega arith in e);
@@ -64,7 +65,7 @@ puts_on failed old mid new a b =
     by false e = e ∙ a.latest
 
 -- One text is added behind another,
-puts_then : (xs ys : List ℕ) (put mid now : ℕ) (old view new : FilesView) → PutsAll xs put mid old view → PutsAll ys mid now view new → PutsAll (xs ++ ys) put now old new
+puts_then : (xs ys : List ℕ) (put mid now : ℕ) (old view new : FilesView) → PutsWhole xs put mid old view → PutsWhole ys mid now view new → PutsWhole (xs ++ ys) put now old new
 puts_then xs ys put mid now old view new a b = record {
   added = join_names old.writing (λ name. Both (Extends name xs) old.held view.held) (λ name. Both (Extends name ys) view.held new.held) (λ name. Both (Extends name (xs ++ ys)) old.held new.held)
       (λ name p q. Both-Extends-append name xs ys old.held view.held new.held p q) a.added (same_name old.writing view.writing (λ name. Both (Extends name ys) view.held new.held) a.puts.writing b.added);
@@ -78,7 +79,7 @@ join_prefix name xs ys first mid last a b =
     (length xs + b.0, omega (arith, long, less), subst (λ text. Both (Extends name text) first last) (sym (take-append-add xs ys b.0)) (Both-Extends-append name xs (take b.0 ys) first mid last a b.2))
 
 -- or a part of it.
-part_then : (xs ys : List ℕ) (f : CheckFault) (put mid : ℕ) (old view new : FilesView) → PutsAll xs put mid old view → PutsPart ys f view new → PutsPart (xs ++ ys) f old new
+part_then : (xs ys : List ℕ) (f : CheckFault) (put mid : ℕ) (old view new : FilesView) → PutsWhole xs put mid old view → PutsBeginning ys f view new → PutsBeginning (xs ++ ys) f old new
 part_then xs ys f put mid old view new a b = record {
   added = join_names old.writing (λ name. Both (Extends name xs) old.held view.held) (λ name. ExtendsByPrefix name ys view.held new.held) (λ name. ExtendsByPrefix name (xs ++ ys) old.held new.held)
       (λ name p q. join_prefix name xs ys old.held view.held new.held p q) a.added (same_name old.writing view.writing (λ name. ExtendsByPrefix name ys view.held new.held) a.puts.writing b.added);
@@ -92,7 +93,7 @@ longer_prefix name xs ys first last b =
     (b.0, omega (arith, long, less), subst (λ text. Both (Extends name text) first last) (sym (take-append-le b.0 xs ys less)) b.2)
 
 -- A part of a text is a part of a longer one.
-part_more : (xs ys : List ℕ) (f : CheckFault) (old new : FilesView) → PutsPart xs f old new → PutsPart (xs ++ ys) f old new
+part_more : (xs ys : List ℕ) (f : CheckFault) (old new : FilesView) → PutsBeginning xs f old new → PutsBeginning (xs ++ ys) f old new
 part_more xs ys f old new a = record {
   added = join_names old.writing (λ name. ExtendsByPrefix name xs old.held new.held) (λ name. ExtendsByPrefix name xs old.held new.held) (λ name. ExtendsByPrefix name (xs ++ ys) old.held new.held)
       (λ name p q. longer_prefix name xs ys old.held new.held p) a.added a.added;
@@ -116,7 +117,7 @@ text_parts xs i x lt is =
     ∙ (flat_map-append line_text (take (i + 1) xs) (drop (i + 1) xs) ∙ ap (λ t. t ++ lines_text (drop (i + 1) xs)) (text_next xs i x lt is))
 
 -- There is room for the next line.
-pub next_room : (xs : List CertLine) (i : ℕ) (x : CertLine) (put now : ℕ) (old view : FilesView) → PutsAll (lines_text (take i xs)) put now old view → i < length xs → x ≡ get_or xs i x → put + length (lines_text xs) ≤ 4294967296 → now + length (line_text x) ≤ 4294967296
+pub next_room : (xs : List CertLine) (i : ℕ) (x : CertLine) (put now : ℕ) (old view : FilesView) → PutsWhole (lines_text (take i xs)) put now old view → i < length xs → x ≡ get_or xs i x → put + length (lines_text xs) ≤ 4294967296 → now + length (line_text x) ≤ 4294967296
 next_room xs i x put now old view a lt is room =
     let parts = ap length (text_parts xs i x lt is) in
     let l = length-append (lines_text (take i xs) ++ line_text x) (lines_text (drop (i + 1) xs)) in
@@ -124,22 +125,22 @@ next_room xs i x put now old view a lt is room =
     let c = a.count in omega (arith, parts, l, k, c, room)
 
 -- One line more.
-pub puts_next : (xs : List CertLine) (i : ℕ) (x : CertLine) (put mid now : ℕ) (old view new : FilesView) → PutsAll (lines_text (take i xs)) put mid old view → i < length xs → x ≡ get_or xs i x → PutsAll (line_text x) mid now view new →
-    PutsAll (lines_text (take (i + 1) xs)) put now old new
-puts_next xs i x put mid now old view new a lt is b = subst (λ t. PutsAll t put now old new) (sym (text_next xs i x lt is)) (puts_then (lines_text (take i xs)) (line_text x) put mid now old view new a b)
+pub puts_next : (xs : List CertLine) (i : ℕ) (x : CertLine) (put mid now : ℕ) (old view new : FilesView) → PutsWhole (lines_text (take i xs)) put mid old view → i < length xs → x ≡ get_or xs i x → PutsWhole (line_text x) mid now view new →
+    PutsWhole (lines_text (take (i + 1) xs)) put now old new
+puts_next xs i x put mid now old view new a lt is b = subst (λ t. PutsWhole t put now old new) (sym (text_next xs i x lt is)) (puts_then (lines_text (take i xs)) (line_text x) put mid now old view new a b)
 
 -- A part of the next line.
-pub part_next : (xs : List CertLine) (i : ℕ) (x : CertLine) (f : CheckFault) (put mid : ℕ) (old view new : FilesView) → PutsAll (lines_text (take i xs)) put mid old view → i < length xs → x ≡ get_or xs i x → PutsPart (line_text x) f view new → PutsPart (lines_text xs) f old new
+pub part_next : (xs : List CertLine) (i : ℕ) (x : CertLine) (f : CheckFault) (put mid : ℕ) (old view new : FilesView) → PutsWhole (lines_text (take i xs)) put mid old view → i < length xs → x ≡ get_or xs i x → PutsBeginning (line_text x) f view new → PutsBeginning (lines_text xs) f old new
 part_next xs i x f put mid old view new a lt is b =
-    subst (λ t. PutsPart t f old new) (sym (text_parts xs i x lt is))
+    subst (λ t. PutsBeginning t f old new) (sym (text_parts xs i x lt is))
     (part_more (lines_text (take i xs) ++ line_text x) (lines_text (drop (i + 1) xs)) f old new (part_then (lines_text (take i xs)) (line_text x) f put mid old view new a b))
 
 -- All lines.
-pub puts_all : (xs : List CertLine) (i put now : ℕ) (old new : FilesView) → PutsAll (lines_text (take i xs)) put now old new → length xs ≤ i → PutsAll (lines_text xs) put now old new
-puts_all xs i put now old new a le = subst (λ ys. PutsAll (lines_text ys) put now old new) (take_all i xs le) a
+pub puts_all : (xs : List CertLine) (i put now : ℕ) (old new : FilesView) → PutsWhole (lines_text (take i xs)) put now old new → length xs ≤ i → PutsWhole (lines_text xs) put now old new
+puts_all xs i put now old new a le = subst (λ ys. PutsWhole (lines_text ys) put now old new) (take_all i xs le) a
 
 -- A file is still being written.
-pub still_writing : (text : List ℕ) (put now : ℕ) (old new : FilesView) → PutsAll text put now old new → IsSome old.writing → IsSome new.writing
+pub still_writing : (text : List ℕ) (put now : ℕ) (old new : FilesView) → PutsWhole text put now old new → IsSome old.writing → IsSome new.writing
 still_writing text put now old new a some = subst IsSome (sym a.puts.writing) some
 
 -- ---- the whole file
@@ -167,15 +168,15 @@ take_whole : (xs : List ℕ) → take (length xs) xs ≡ xs
 take_whole [] = refl
 take_whole (x ∷ xs) = ap (λ ys. x ∷ ys) (take_whole xs)
 
-all_written : (name text : List ℕ) (put now : ℕ) (old mid new : FilesView) → IsBegun name old mid → PutsAll text put now mid new → Both (Replaces name text) old.held new.held
+all_written : (name text : List ℕ) (put now : ℕ) (old mid new : FilesView) → IsBegun name old mid → PutsWhole text put now mid new → Both (Replaces name text) old.held new.held
 all_written name text put now old mid new begun a = replaced name text old.held mid.held new.held begun.emptied (at_name mid.writing name (λ name. Both (Extends name text) mid.held new.held) begun.writing a.added)
 
-part_written : (name text : List ℕ) (f : CheckFault) (old mid new : FilesView) → IsBegun name old mid → PutsPart text f mid new → IsCut name text old.held new.held
+part_written : (name text : List ℕ) (f : CheckFault) (old mid new : FilesView) → IsBegun name old mid → PutsBeginning text f mid new → IsCutOff name text old.held new.held
 part_written name text f old mid new begun a =
     let p = at_name mid.writing name (λ name. ExtendsByPrefix name text mid.held new.held) begun.writing a.added in
     inr (p.0, replaced name (take p.0 text) old.held mid.held new.held begun.emptied p.2)
 
-all_cut : (name text : List ℕ) (old new : Option Held) → Both (Replaces name text) old new → IsCut name text old new
+all_cut : (name text : List ℕ) (old new : Option Held) → Both (Replaces name text) old new → IsCutOff name text old new
 all_cut name text old new all = inr (length text, subst (λ t. Both (Replaces name t) old new) (sym (take_whole text)) all)
 
 -- What was written is there when the writing has ended,
@@ -183,14 +184,14 @@ pub whole_ended : {T : Type 0} (r : Result T CheckFault) (name text : List ℕ) 
 whole_ended (Ok x) name text put now old mid new last begun puts same = subst (Both (Replaces name text) old.held) (sym same) (all_written name text put now old mid new begun puts)
 whole_ended (Err f) name text put now old mid new last begun puts same = tt
 
-pub cut_ended : {T : Type 0} (r : Result T CheckFault) (name text : List ℕ) (put now : ℕ) (old mid new last : FilesView) → IsBegun name old mid → PutsText text r put now mid new → last.held ≡ new.held → OnErr r (IsCut name text old.held last.held)
+pub cut_ended : {T : Type 0} (r : Result T CheckFault) (name text : List ℕ) (put now : ℕ) (old mid new last : FilesView) → IsBegun name old mid → PutsText text r put now mid new → last.held ≡ new.held → OnErr r (IsCutOff name text old.held last.held)
 cut_ended (Ok x) name text put now old mid new last begun puts same = tt
-cut_ended (Err f) name text put now old mid new last begun puts same = subst (IsCut name text old.held) (sym same) (part_written name text f old mid new begun puts)
+cut_ended (Err f) name text put now old mid new last begun puts same = subst (IsCutOff name text old.held) (sym same) (part_written name text f old mid new begun puts)
 
 -- also where it ended with a fault.
-pub cut_failed : {T : Type 0} (r : Result T CheckFault) (name text : List ℕ) (put now : ℕ) (old mid new last : FilesView) → IsBegun name old mid → PutsText text r put now mid new → last.held ≡ new.held → IsCut name text old.held last.held
-cut_failed (Ok x) name text put now old mid new last begun puts same = subst (IsCut name text old.held) (sym same) (all_cut name text old.held new.held (all_written name text put now old mid new begun puts))
-cut_failed (Err f) name text put now old mid new last begun puts same = subst (IsCut name text old.held) (sym same) (part_written name text f old mid new begun puts)
+pub cut_failed : {T : Type 0} (r : Result T CheckFault) (name text : List ℕ) (put now : ℕ) (old mid new last : FilesView) → IsBegun name old mid → PutsText text r put now mid new → last.held ≡ new.held → IsCutOff name text old.held last.held
+cut_failed (Ok x) name text put now old mid new last begun puts same = subst (IsCutOff name text old.held) (sym same) (all_cut name text old.held new.held (all_written name text put now old mid new begun puts))
+cut_failed (Err f) name text put now old mid new last begun puts same = subst (IsCutOff name text old.held) (sym same) (part_written name text f old mid new begun puts)
 
 pub untold_ended : {T : Type 0} (r : Result T CheckFault) (text : List ℕ) (put now : ℕ) (old new : FilesView) → PutsText text r put now old new → IfErr r IsUntold
 untold_ended (Ok x) text put now old new puts = tt
@@ -244,7 +245,7 @@ upgrade_written source target lines n old mid new read same all = by old new rea
     by (Some a) None read all = absurd all
     by (Some a) (Some b) read all = subst (λ t. Replaces target t a b) (ap lines_text read.made) all
 
-pub upgrade_part : (source target : List ℕ) (lines : List CertLine) (n : ℕ) (old mid new : Option Held) → IfSome old (λ held. IsWholeRead (held source) lines n) → mid ≡ old → IsCut target (lines_text lines) mid new → IsPartWritten source target old new
+pub upgrade_part : (source target : List ℕ) (lines : List CertLine) (n : ℕ) (old mid new : Option Held) → IfSome old (λ held. IsWholeRead (held source) lines n) → mid ≡ old → IsCutOff target (lines_text lines) mid new → IsPartWritten source target old new
 upgrade_part source target lines n old mid new read same (inl e) = inl (e ∙ same)
 upgrade_part source target lines n old mid new read same (inr p) = inr (p.0, by old new read (subst (λ o. Both (Replaces target (take p.0 (lines_text lines))) o new) same p.1))
   where

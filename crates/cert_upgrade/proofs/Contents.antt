@@ -17,7 +17,7 @@ use Rattle.certificate_laws.specs.Closures.{Closure, Pair}
 use Rattle.certificate_laws.specs.Validity.{all_checks, content_check, is_listed_within, leads_on_by, listed_on_lines, listed_pairs, listing_checks, lower_checks, move_checks, row_checks}
 use Rattle.certificate_laws.specs.inside.Holding.{AllHold}
 use Rattle.certificate_laws.specs.inside.OnLines.{state_on_line}
-use Rattle.certificate_laws.proofs.HoldLemmas.{AllHold-append, both, both_back}
+use Rattle.certificate_laws.proofs.HoldLemmas.{AllHold-append, both, both_back, AllHold-join}
 use Rattle.certificate_laws.proofs.ListingLemmas.{leads_all, on_lines-listed}
 use Rattle.certificate_laws.proofs.RowLemmas.{AreRowsOf, rows_behind}
 use Rattle.certificate_laws.proofs.UpperLemmas.{line_after, upper_checks-from, upper_from}
@@ -218,10 +218,6 @@ abbrev checks_at : Closure → Lines → ℕ → Lines → ℕ → List Check
 checks_at closure lines at above m =
     upper_checks (content_check closure) lines
     ++ (listing_checks closure closure.targets at above m ++ lower_checks closure (listed_in above) lines at)
-
-AllHold-join : (xs ys : List Check) → AllHold xs → AllHold ys → AllHold (xs ++ ys)
-AllHold-join [] ys a b = b
-AllHold-join (x ∷ xs) ys a b = (a.0, AllHold-join xs ys a.1 b)
 
 each_holds : {A : Type 0} (f : A → Check) (xs : List A) → ((x : A) → Contains xs x → (f x).holds ≡ true) → AllHold (map f xs)
 each_holds f [] h = tt

@@ -18,7 +18,7 @@ use Rattle.audit_certificate.specs.Runs.{states_of_run}
 use Rattle.cert_check.proofs.AnswerLemmas.{due_conflicts, due_distance, due_end, due_entries, due_head, due_row, due_run, due_states, first_stays, left_true, under}
 use Rattle.cert_upgrade.specs.declared.upper.Upper.{Upper}
 use Rattle.cert_upgrade.specs.Forms.{announced_entries, announced_states, is_announced}
-use Rattle.cert_upgrade.specs.inside.Uppers.{Knows, TakesLine, failure_by, form_failure, lines_after, may_list, new_upper, next_after, states_after, upper_failure, version_after, with_run}
+use Rattle.cert_upgrade.specs.inside.Uppers.{Knows, TakesFormLine, failure_by, form_failure, lines_after, may_list, new_upper, next_after, states_after, upper_failure, version_after, with_run}
 use Rattle.cert_upgrade.proofs.RunJoins.{line_of_run, push_run, runs-push, with_run-behind}
 
 -- ---- why a line fails
@@ -134,7 +134,7 @@ third_stays (a ∷ b ∷ []) o le = absurd (omega (arith, le))
 third_stays (a ∷ b ∷ c ∷ ls) o le = refl
 
 -- one line more that lists nothing, behind the first
-knows_quiet : (old new : Upper) (before : Lines) (l : CertLine) → Knows old before → 0 < length before → TakesLine old new l → listed_by (Some l) ≡ [] → row_of_line (Some l) ≡ None → version_after old.version l ≡ old.version → next_after old.next l ≡ old.next →
+knows_quiet : (old new : Upper) (before : Lines) (l : CertLine) → Knows old before → 0 < length before → TakesFormLine old new l → listed_by (Some l) ≡ [] → row_of_line (Some l) ≡ None → version_after old.version l ≡ old.version → next_after old.next l ≡ old.next →
     (3 ≤ length before + 1 → announced_states (line_at (before ++ Some l ∷ []) 3) ≡ states_after old.states l) → lines_after old.lines.items l ≡ new_upper (before ++ Some l ∷ []) → Knows new (before ++ Some l ∷ [])
 knows_quiet old new before l knows some takes none no_row version next states lines = record {
   version = λ more. first_stays before (Some l) some ∙ (knows.version some ∙ ap (λ v. Some (of.Head v)) (sym (takes.version ∙ version)));
@@ -182,7 +182,7 @@ new_upper-run (h ∷ e ∷ s ∷ ls) l q long le lists =
     ∙ ap (λ rs. of.Head 2 ∷ of.Entries (announced_entries e) ∷ of.States (announced_states s) ∷ map line_of_run rs) (sym runs)
 
 -- one line more that lists a run
-knows_run : (old new : Upper) (before : Lines) (l : CertLine) (q : Run) → Knows old before → 3 ≤ length before → q.first ≤ q.last → old.next ≤ q.first → TakesLine old new l → listed_by (Some l) ≡ states_of_run q → row_of_line (Some l) ≡ None →
+knows_run : (old new : Upper) (before : Lines) (l : CertLine) (q : Run) → Knows old before → 3 ≤ length before → q.first ≤ q.last → old.next ≤ q.first → TakesFormLine old new l → listed_by (Some l) ≡ states_of_run q → row_of_line (Some l) ≡ None →
     version_after old.version l ≡ old.version → states_after old.states l ≡ old.states → next_after old.next l ≡ q.last + 1 → lines_after old.lines.items l ≡ with_run old.lines.items q.first q.last q.distance → Knows new (before ++ Some l ∷ [])
 knows_run old new before l q knows long le above takes lists no_row version states next lines = record {
   version = λ more. first_stays before (Some l) (omega (arith, long)) ∙ (knows.version (omega (arith, long)) ∙ ap (λ v. Some (of.Head v)) (sym (takes.version ∙ version)));
@@ -204,7 +204,7 @@ knows_run old new before l q knows long le above takes lists no_row version stat
         ap (λ n. list_all (λ (other : Listed). nat_lt other.state state) (map (λ state. record { state = state; distance = q.distance }) (range_with_len q.first n))) many
         ∙ (all_below state q.first (q.last - q.first) q.distance ∙ ap (λ x. nat_lt x state) end)
 
-knows_head : (old new : Upper) (before : Lines) (v : ℕ) → Knows old before → TakesLine old new (of.Head v) → length before ≡ 0 → Knows new (before ++ Some (of.Head v) ∷ [])
+knows_head : (old new : Upper) (before : Lines) (v : ℕ) → Knows old before → TakesFormLine old new (of.Head v) → length before ≡ 0 → Knows new (before ++ Some (of.Head v) ∷ [])
 knows_head old new [] v knows takes none = record {
   version = λ some. ap (λ k. Some (of.Head k)) (sym takes.version);
   states = λ long. absurd (omega (arith, long));
@@ -215,13 +215,13 @@ knows_head old new [] v knows takes none = record {
 }
 knows_head old new (b ∷ bs) v knows takes none = absurd (omega (arith, none))
 
-knows_entries : (old new : Upper) (before : Lines) (k : ℕ) → Knows old before → TakesLine old new (of.Entries k) → length before ≡ 1 → Knows new (before ++ Some (of.Entries k) ∷ [])
+knows_entries : (old new : Upper) (before : Lines) (k : ℕ) → Knows old before → TakesFormLine old new (of.Entries k) → length before ≡ 1 → Knows new (before ++ Some (of.Entries k) ∷ [])
 knows_entries old new [] k knows takes one = absurd (omega (arith, one))
 knows_entries old new (h ∷ []) k knows takes one =
     knows_quiet old new (h ∷ []) (of.Entries k) knows (omega arith) takes refl refl refl refl (λ long. absurd (omega (arith, long))) (ap (λ ls. ls ++ of.Entries k ∷ []) knows.lines)
 knows_entries old new (h ∷ b ∷ bs) k knows takes one = absurd (omega (arith, one))
 
-knows_states : (old new : Upper) (before : Lines) (k : ℕ) → Knows old before → TakesLine old new (of.States k) → length before ≡ 2 → Knows new (before ++ Some (of.States k) ∷ [])
+knows_states : (old new : Upper) (before : Lines) (k : ℕ) → Knows old before → TakesFormLine old new (of.States k) → length before ≡ 2 → Knows new (before ++ Some (of.States k) ∷ [])
 knows_states old new [] k knows takes two = absurd (omega (arith, two))
 knows_states old new (h ∷ []) k knows takes two = absurd (omega (arith, two))
 knows_states old new (h ∷ e ∷ []) k knows takes two =
@@ -231,7 +231,7 @@ knows_states old new (h ∷ e ∷ []) k knows takes two =
 knows_states old new (h ∷ e ∷ b ∷ bs) k knows takes two = absurd (omega (arith, two))
 
 -- One line more that may follow and says what is right.
-pub knows_more : (old new : Upper) (before : Lines) (l : CertLine) → Knows old before → upper_failure old (length before) l ≡ None → TakesLine old new l → is_conflicts (Some l) ≡ false → Knows new (before ++ Some l ∷ [])
+pub knows_more : (old new : Upper) (before : Lines) (l : CertLine) → Knows old before → upper_failure old (length before) l ≡ None → TakesFormLine old new l → is_conflicts (Some l) ≡ false → Knows new (before ++ Some l ∷ [])
 knows_more old new before (of.Head v) knows right takes other =
     let due = (passes ((length before == 0) && ((v == 1) || (v == 2))) true why.Form right).0 in
     knows_head old new before v knows takes (eqb-true (length before) 0 (left_true (length before == 0) ((v == 1) || (v == 2)) due))

@@ -20,12 +20,14 @@ use Rattle.cert_check.proofs.AnswerLemmas.{no_le}
 use Rattle.cert_check.proofs.ReadLemmas.{Missing, long_line, missing, no_line, read_to_end}
 use Rattle.cert_check.proofs.RowLoop.{end_not}
 use Rattle.cert_check.proofs.StageLemmas.{stops_far}
-use Rattle.cert_check.proofs.UpperLoop.{if_some, takes_none, takes_on}
+use Rattle.cert_check.proofs.UpperLoop.{if_some, takes_on}
+use Rattle.certificate.proofs.Passing.{takes_same}
+use Rattle.certificate_laws.proofs.RowLemmas.{row_of}
 use Rattle.cert_upgrade.specs.Forms.{row_forms, upgrade_limit, upgrade_outcome}
 use Rattle.cert_upgrade.specs.inside.Stages.{AreFormsLeft, AreRowsRead, AreWritable, IsWholeRead, row_read}
 use Rattle.cert_upgrade.specs.inside.Uppers.{new_upper}
 use Rattle.cert_upgrade.proofs.FormStages.{LineRead, announces, forms_fail, forms_missing, forms_past, line_reached, line_read, readable}
-use Rattle.cert_upgrade.proofs.Shapes.{IsShaped, announced-shaped, below, row_of, upgraded-shaped}
+use Rattle.cert_upgrade.proofs.Shapes.{IsShaped, announced-shaped, below, upgraded-shaped}
 
 -- the lines that were read behind some rows
 abbrev pub lines_down : Lines → ℕ → List Row → Lines
@@ -131,7 +133,7 @@ pub record IsReadingRows (first reader : ReaderView) (old now : FilesView) (begu
 
 pub rows_begin : (first : ReaderView) (old : FilesView) (begun : List CertLine) (n left : ℕ) → left ≡ n → IsReadingRows first first old old begun begun n left
 rows_begin first old begun n left e = record {
-  takes = takes_none old;
+  takes = takes_same old;
   limit = refl;
   writable = λ is. is;
   told = λ bytes at. subst (λ k. AreRowsRead bytes first.given begun n k first.lines (ahead first old)) (sym e) at;

@@ -9,29 +9,18 @@ use Rattle.longest_match.specs.Rows.{Row}
 use Rattle.certificate.specs.declared.lines.CertLine.{CertLine}
 use Rattle.certificate.specs.declared.lines.CertLine.TheVariants as of
 use Rattle.certificate.specs.CertTexts.{certificate_lines}
-use Rattle.certificate_laws.specs.Checks.{ContentCheck, Lines, announced, certificate_rows, conflicts_line, end_checks, is_conflicts, is_end_line, is_row_line, line_at, listed_in, may_follow, row_of_line, upper_lines}
+use Rattle.certificate_laws.specs.Checks.{ContentCheck, Lines, announced, certificate_rows, conflicts_line, end_checks, is_conflicts, line_at, listed_in, may_follow, row_of_line, upper_lines}
 use Rattle.certificate_laws.specs.inside.Holding.{AllHold}
 use Rattle.certificate_laws.proofs.UpperLemmas.{first_of, line_after, upper_from}
-use Rattle.cert_check.proofs.AnswerLemmas.{due_conflicts, due_row}
+use Rattle.cert_check.proofs.AnswerLemmas.{due_conflicts}
 use Rattle.cert_check.proofs.StageLemmas.{no_line_due}
+use Rattle.certificate_laws.proofs.RowLemmas.{no_row, row_of, end_of}
 use Rattle.cert_upgrade.specs.Forms.{announced_entries, announced_states, row_forms}
 use Rattle.cert_upgrade.specs.Upgrades.{upgraded_lines}
 use Rattle.cert_upgrade.specs.inside.Stages.{row_read}
 use Rattle.cert_upgrade.specs.inside.Uppers.{new_upper}
 
 -- ---- rows among lines
-
--- A line that may follow above the conflicts is no row.
-pub no_row : (before : Lines) (l : Option CertLine) → may_follow before l ≡ true → row_of_line l ≡ None
-no_row before None due = refl
-no_row before (Some (of.Head v)) due = refl
-no_row before (Some (of.Entries k)) due = refl
-no_row before (Some (of.States k)) due = refl
-no_row before (Some (of.Distance s d)) due = refl
-no_row before (Some (of.Run s t d)) due = refl
-no_row before (Some (of.Conflicts k)) due = refl
-no_row before (Some (of.Row r)) due = absurd (true≢false (sym due ∙ due_row before (length before) r))
-no_row before (Some of.End) due = refl
 
 pub rows-append : (xs ys : Lines) → certificate_rows (xs ++ ys) ≡ certificate_rows xs ++ certificate_rows ys
 rows-append [] ys = refl
@@ -177,28 +166,6 @@ listing_rows content before [] hold = refl
 listing_rows content before (l ∷ ls) hold = ap (λ o. cons_option o (certificate_rows ls)) (no_row before l hold.0) ∙ listing_rows content (before ++ l ∷ []) ls hold.2
 
 -- ---- the rows
-
-pub row_of : (o : Option CertLine) → is_row_line o ≡ true → (r : Row) × (o ≡ Some (of.Row r))
-row_of None e = absurd (true≢false (sym e))
-row_of (Some (of.Head v)) e = absurd (true≢false (sym e))
-row_of (Some (of.Entries n)) e = absurd (true≢false (sym e))
-row_of (Some (of.States n)) e = absurd (true≢false (sym e))
-row_of (Some (of.Distance s d)) e = absurd (true≢false (sym e))
-row_of (Some (of.Run s t d)) e = absurd (true≢false (sym e))
-row_of (Some (of.Conflicts n)) e = absurd (true≢false (sym e))
-row_of (Some (of.Row r)) e = (r, refl)
-row_of (Some of.End) e = absurd (true≢false (sym e))
-
-end_of : (o : Option CertLine) → is_end_line o ≡ true → o ≡ Some of.End
-end_of None e = absurd (true≢false (sym e))
-end_of (Some (of.Head v)) e = absurd (true≢false (sym e))
-end_of (Some (of.Entries n)) e = absurd (true≢false (sym e))
-end_of (Some (of.States n)) e = absurd (true≢false (sym e))
-end_of (Some (of.Distance s d)) e = absurd (true≢false (sym e))
-end_of (Some (of.Run s t d)) e = absurd (true≢false (sym e))
-end_of (Some (of.Conflicts n)) e = absurd (true≢false (sym e))
-end_of (Some (of.Row r)) e = absurd (true≢false (sym e))
-end_of (Some of.End) e = refl
 
 -- a first line that is there
 first_there : (back : Lines) (l : CertLine) → first_of back ≡ Some l → (ls : Lines) × (back ≡ Some l ∷ ls)

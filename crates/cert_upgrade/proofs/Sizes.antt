@@ -4,7 +4,6 @@ use Rattle.std.specs.Prelude.{◌&&◌, ◌==◌, nat_lt, codes, decimal}
 use Rattle.std.specs.Fmt.{digits}
 use Rattle.std.specs.List.{list_all, join_with_byte, AllByRecursion}
 use Rattle.std.proofs.lemmas.Bool.{ltb-true}
-use Rattle.std.proofs.lemmas.Grind.{flat_map-append}
 use Rattle.std.proofs.lemmas.List.{length-append}
 use Rattle.text_rules.specs.Lines.{line}
 use Rattle.certificate.specs.declared.lines.CertLine.{CertLine}
@@ -12,7 +11,8 @@ use Rattle.certificate.specs.declared.lines.CertLine.TheVariants as of
 use Rattle.certificate.specs.CertLines.{fits, is_u32, line_text}
 use Rattle.certificate.specs.Writers.{HasWord}
 use Rattle.certificate_laws.proofs.HoldLemmas.{both}
-use Rattle.cert_upgrade.specs.inside.Puts.{lines_text}
+use Rattle.audit_certificate.specs.Written.{lines_text}
+use Rattle.audit_certificate.proofs.Fitting.{lines_text-length}
 use Rattle.cert_upgrade.specs.inside.Stages.{AreWritable}
 use Rattle.cert_upgrade.specs.inside.Uppers.{joined, lines_after, run_before, with_run}
 
@@ -47,11 +47,8 @@ head-length v =
 
 -- ---- lengths of texts
 
-pub text-append : (xs ys : List CertLine) → length (lines_text (xs ++ ys)) ≡ length (lines_text xs) + length (lines_text ys)
-text-append xs ys = ap length (flat_map-append line_text xs ys) ∙ length-append (lines_text xs) (lines_text ys)
-
 pub text-push : (xs : List CertLine) (l : CertLine) → length (lines_text (xs ++ l ∷ [])) ≡ length (lines_text xs) + length (line_text l)
-text-push xs l = text-append xs (l ∷ []) ∙ ap (λ n. length (lines_text xs) + n) (length-append (line_text l) [] ∙ (let e : length (line_text l) + 0 ≡ length (line_text l) = omega arith in e))
+text-push xs l = lines_text-length xs (l ∷ []) ∙ ap (λ n. length (lines_text xs) + n) (length-append (line_text l) [] ∙ (let e : length (line_text l) + 0 ≡ length (line_text l) = omega arith in e))
 
 -- the two runs as one are no longer
 joined-length : (o : Option ℕ) (l : CertLine) (s t d : ℕ) → run_before l s d ≡ o → length (lines_text (joined o l s t d)) ≤ length (line_text l) + length (line_text (of.Run s t d))

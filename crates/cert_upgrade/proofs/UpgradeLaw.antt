@@ -21,7 +21,7 @@ use Rattle.certificate_laws.specs.Checks.{Check, Lines, accepted, announced, con
 use Rattle.certificate_laws.specs.Closures.{Closure, Pair, closure_of}
 use Rattle.certificate_laws.specs.Validity.{IsValid, all_checks, content_check, listed_pairs, listing_checks, lower_checks, move_checks, row_check, row_checks}
 use Rattle.certificate_laws.specs.inside.Holding.{AllHold}
-use Rattle.certificate_laws.proofs.HoldLemmas.{AllHold-append, accepted_holds}
+use Rattle.certificate_laws.proofs.HoldLemmas.{AllHold-append, accepted_holds, AllHold-join}
 use Rattle.certificate_laws.proofs.LimitLemmas.{accepted_without, holding_stands}
 use Rattle.certificate_laws.proofs.UpperLemmas.{line_after, upper_checks-from, upper_from}
 use Rattle.audit_certificate.proofs.ReadBack.{AllFit, AllFit-append, read_back}
@@ -250,10 +250,6 @@ rows_form closure listed lines at (p ∷ ps) h =
     let two = AllHold-append (row_check closure listed lines (at + 1, p)) (row_checks closure listed lines (at + 1) ps) h in
     (two.0.0, rows_form closure listed lines (at + 1) ps two.1)
 
-join : (xs ys : List Check) → AllHold xs → AllHold ys → AllHold (xs ++ ys)
-join [] ys a b = b
-join (x ∷ xs) ys a b = (a.0, join xs ys a.1 b)
-
 -- the form of the lines down to the conflicts
 upper_form : (v n k : ℕ) (others : Lines) (m : ℕ) (rest : Lines) → HasNoConflicts others → ((v == 1) || (v == 2)) ≡ true → ListingHolds form_check (heads v n k) others → nat_le k most_numbers ≡ true →
     AllHold (upper_from form_check [] ((heads v n k ++ others) ++ Some (of.Conflicts m) ∷ rest))
@@ -279,7 +275,7 @@ valid_form entries flags lines are few h = by (above_of (content_check (closure_
         let middle = AllHold-append (move_checks (closure_of entries flags).targets (conflicts_line lines) (upper_lines lines)) _ below_parts.0.1 in
         let count = eqb-true (announced (line_at lines (conflicts_line lines))) (length (listed_pairs (closure_of entries flags) (listed_in (upper_lines lines)))) middle.1.0 in
         let rows = rows_form (closure_of entries flags) (listed_in (upper_lines lines)) lines (conflicts_line lines) (listed_pairs (closure_of entries flags) (listed_in (upper_lines lines))) two.0 in
-        subst (λ i. AllHold (lower_forms lines (conflicts_line lines) i)) (sym count) (join (row_forms lines (conflicts_line lines) (length (listed_pairs (closure_of entries flags) (listed_in (upper_lines lines))))) _ rows two.1)
+        subst (λ i. AllHold (lower_forms lines (conflicts_line lines) i)) (sym count) (AllHold-join (row_forms lines (conflicts_line lines) (length (listed_pairs (closure_of entries flags) (listed_in (upper_lines lines))))) _ rows two.1)
 
     by : IsAbove (content_check (closure_of entries flags)) [] lines → AllHold (form_checks lines)
     by a =
@@ -290,7 +286,7 @@ valid_form entries flags lines are few h = by (above_of (content_check (closure_
         let plain = plain_behind (heads hd.v hd.n hd.k) hd.others (subst HasNoConflicts hd.split a.plain) in
         let upper = upper_form hd.v hd.n hd.k hd.others a.n a.rest plain hd.version held small in
         let is : (heads hd.v hd.n hd.k ++ hd.others) ++ Some (of.Conflicts a.n) ∷ a.rest ≡ lines = sym (a.split ∙ ap (λ ls. ls ++ Some (of.Conflicts a.n) ∷ a.rest) hd.split) in
-        join (upper_checks form_check lines) _ (subst AllHold (sym (upper_checks-from form_check lines)) (subst (λ ls. AllHold (upper_from form_check [] ls)) is upper)) lower
+        AllHold-join (upper_checks form_check lines) _ (subst AllHold (sym (upper_checks-from form_check lines)) (subst (λ ls. AllHold (upper_from form_check [] ls)) is upper)) lower
 
 -- The law of what is rejected.
 pub never_valid : (bytes : List ℕ) (line : ℕ) (why : Why) → upgrade_outcome bytes ≡ rejected line why → IsNeverValid bytes

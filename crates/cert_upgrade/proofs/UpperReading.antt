@@ -15,11 +15,12 @@ use Rattle.cert_check.specs.Reading.{BeginsWithout, IsReadTo}
 use Rattle.cert_check.specs.Verdicts.{IsFaultOf}
 use Rattle.cert_check.specs.declared.faults.CheckFault.{CheckFault}
 use Rattle.cert_check.proofs.ReadLemmas.{missing}
-use Rattle.cert_check.proofs.UpperLoop.{if_some, takes_none, takes_on}
+use Rattle.cert_check.proofs.UpperLoop.{if_some, takes_on}
+use Rattle.certificate.proofs.Passing.{takes_same}
 use Rattle.cert_upgrade.specs.declared.upper.Upper.{Upper}
 use Rattle.cert_upgrade.specs.Forms.{row_forms, upgrade_limit, upgrade_outcome}
 use Rattle.cert_upgrade.specs.inside.Stages.{AreFormsLeft, AreRowsRead, AreWritable}
-use Rattle.cert_upgrade.specs.inside.Uppers.{Knows, TakesLine, form_failure, upper_failure}
+use Rattle.cert_upgrade.specs.inside.Uppers.{Knows, TakesFormLine, form_failure, upper_failure}
 use Rattle.cert_upgrade.proofs.FormAnswers.{failure-is, knows_more, knows_nothing, passes}
 use Rattle.cert_upgrade.proofs.FormStages.{AtUpper, LineRead, at_begin, line_read, upper_done, upper_fails, upper_missing, upper_on}
 use Rattle.cert_upgrade.proofs.Sizes.{has_word, writable_after, writable_push}
@@ -43,7 +44,7 @@ pub record IsReadingUpper (first reader : ReaderView) (old now : FilesView) (u :
 -- At the start.
 pub upper_start : (first : ReaderView) (old : FilesView) (u : Upper) → first ≡ new_reader upgrade_limit → u.next ≡ 0 → u.lines.items ≡ [] → IsReadingUpper first first old old u
 upper_start first old u begun next lines = record {
-  takes = takes_none old;
+  takes = takes_same old;
   limit = ap (λ (r : ReaderView). r.limit) begun;
   writable = subst (AreWritable first.given) (sym lines) (record { words = tt; size = omega arith });
   told = λ bytes told. record {
@@ -68,7 +69,7 @@ told_answer bytes given n u l now failure t answer = sym (failure-is u t.before 
 
 -- One line more.
 pub upper_more : (first reader later : ReaderView) (old mid now : FilesView) (u new : Upper) (l : CertLine) → IsReadingUpper first reader old mid u → GivesLine l reader later (ahead reader mid) (ahead later now) → later.limit ≡ reader.limit → OnlyTakes false mid now →
-    upper_failure u reader.lines l ≡ None → TakesLine u new l → is_conflicts (Some l) ≡ false → IsReadingUpper first later old now new
+    upper_failure u reader.lines l ≡ None → TakesFormLine u new l → is_conflicts (Some l) ≡ false → IsReadingUpper first later old now new
 upper_more first reader later old mid now u new l is gives limit takes answer taken other = record {
   takes = takes_on false old mid now is.takes takes;
   limit = limit ∙ is.limit;

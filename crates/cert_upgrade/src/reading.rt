@@ -6,7 +6,7 @@ ghost use Rattle.certificate.specs.Writers.{HasWord};
 ghost use Rattle.cert_check.specs.Reading.{IsUntold, WhereTold};
 ghost use Rattle.cert_check.specs.Verdicts.{is_check_failed, IsFaultOf};
 ghost use Rattle.cert_upgrade.specs.Forms.{upgrade_limit, upgrade_outcome};
-ghost use Rattle.cert_upgrade.specs.inside.Puts.{lines_text};
+ghost use Rattle.audit_certificate.specs.Written.{lines_text};
 ghost use Rattle.cert_upgrade.specs.inside.Stages.{IsWholeRead};
 
 use crate::rows::{read_end, read_rows};

@@ -2,7 +2,7 @@
 
 ghost use Rattle.std.specs.Prelude.{◌≡◌, [], ◌&&◌, nat_le, nat_lt, None, Some, OnOk, if◌then◌else◌};
 ghost use Rattle.graph_rules.specs.Graphs.{most_numbers};
-ghost use Rattle.cert_upgrade.specs.inside.Uppers.{TakesLine, failure_by, may_list, upper_failure};
+ghost use Rattle.cert_upgrade.specs.inside.Uppers.{TakesFormLine, failure_by, may_list, upper_failure};
 
 use crate::runs::push_run;
 use certificate::CertLine;
@@ -90,7 +90,7 @@ impl Upper {
 
     /// Takes a line that may follow those read so far.
     pub(crate) fn take(&mut self, line: &CertLine) -> Result<(), AllocError>
-        ensures { OnOk result (TakesLine self.old self.new line.now) }
+        ensures { OnOk result (TakesFormLine self.old self.new line.now) }
     {
         match line {
             CertLine::Head { version } => {

@@ -7,7 +7,8 @@ ghost use Rattle.certificate.specs.Readers.{certificate_limit};
 ghost use Rattle.certificate.specs.Writers.{HasWord};
 ghost use Rattle.cert_check.specs.Reading.{IsUntold};
 ghost use Rattle.cert_check.specs.Verdicts.{is_check_failed};
-ghost use Rattle.cert_upgrade.specs.inside.Puts.{IsCut, PutsText, WritesFile, lines_text};
+ghost use Rattle.audit_certificate.specs.Written.{WritesFile, lines_text};
+ghost use Rattle.cert_upgrade.specs.inside.Puts.{IsCutOff, PutsText};
 
 use cert_check::CheckFault;
 use certificate::{CertFault, CertLine, CertWriter};
@@ -67,7 +68,7 @@ pub(crate) fn write<F: Files>(
     requires room { length (lines_text lines.now) ≤ certificate_limit }
     ensures whole { OnOk result (Both (Replaces name.now (lines_text lines.now))
         (F.view files.old).held (F.view files.new).held) }
-    ensures cut { OnErr result (IsCut name.now (lines_text lines.now)
+    ensures cut { OnErr result (IsCutOff name.now (lines_text lines.now)
         (F.view files.old).held (F.view files.new).held) }
     ensures fault { IfErr result IsUntold }
     ensures writes { WritesFile name.now (is_check_failed result)

@@ -1,21 +1,16 @@
 -- The first line of some bytes.
-use Rattle.std.proofs.Common.{◌≡◌, ℕ, ◌+◌, ◌<◌, List, [], ◌∷◌, ◌++◌, map, length, refl, sym, ap, subst, arith, Bool, true, false, cond, true≢false, inl, inr, ◌∙◌, append_assoc, append-nil}
-use Rattle.std.specs.Prelude.{◌&&◌, ◌||◌, ◌==◌, nat_lt, Some, None, count_by, codes, decimal}
+use Rattle.std.proofs.Common.{◌≡◌, ℕ, ◌+◌, ◌<◌, List, [], ◌∷◌, ◌++◌, map, length, refl, sym, ap, subst, arith, true, false, cond, inl, inr, ◌∙◌, append_assoc, append-nil}
+use Rattle.std.specs.Prelude.{◌&&◌, ◌==◌, nat_lt, Some, None, count_by, codes, decimal}
 use Rattle.std.specs.List.{list_all, onto_first, join_with_byte}
 use Rattle.std.proofs.lemmas.List.Sums.{sum_by-append}
-use Rattle.std.proofs.lemmas.Bool.{ltb-true}
+use Rattle.std.proofs.lemmas.Bool.{ltb-true, and_parts, or_parts}
 use Rattle.text_rules.specs.Lines.{has_byte}
-use Rattle.text_rules.proofs.Numbers.{both}
 use Rattle.certificate.specs.declared.lines.CertLine.{CertLine}
 use Rattle.certificate.specs.declared.lines.CertLine.TheVariants as of
 use Rattle.certificate.specs.CertLines.{line_text, fits, is_u32}
 use Rattle.certificate.specs.CertReading.{lines_of, read_line, read_lines}
 use Rattle.certificate.specs.Readers.{IsLineText}
 use Rattle.certificate.proofs.LineTexts.{u32, all_u32, plain_line, read_text}
-
-or_parts : (x y : Bool) → (x || y) ≡ false → (x ≡ false) × (y ≡ false)
-or_parts true y e = absurd (true≢false e)
-or_parts false y e = (refl, e)
 
 -- A line with its line feed is the first of the lines.
 pub lines_of-line : (body rest : List ℕ) → has_byte 10 body ≡ false → lines_of (body ++ 10 ∷ rest) ≡ (body ++ 10 ∷ []) ∷ lines_of rest
@@ -39,17 +34,17 @@ pub line_body : (l : CertLine) → fits l ≡ true → (body : List ℕ) × (lin
 line_body (of.Head v) h = (join_with_byte 32 (codes "boundary-certificate" ∷ decimal v ∷ []), refl, plain_line (codes "boundary-certificate") (v ∷ []) refl (u32 v h, tt))
 line_body (of.Entries n) h = (join_with_byte 32 (codes "entries" ∷ decimal n ∷ []), refl, plain_line (codes "entries") (n ∷ []) refl (u32 n h, tt))
 line_body (of.States n) h = (join_with_byte 32 (codes "states" ∷ decimal n ∷ []), refl, plain_line (codes "states") (n ∷ []) refl (u32 n h, tt))
-line_body (of.Distance s d) h = let two = both (is_u32 s) (is_u32 d) h in (join_with_byte 32 (codes "d" ∷ decimal s ∷ decimal d ∷ []), refl, plain_line (codes "d") (s ∷ d ∷ []) refl (u32 s two.0, (u32 d two.1, tt)))
+line_body (of.Distance s d) h = let two = and_parts (is_u32 s) (is_u32 d) h in (join_with_byte 32 (codes "d" ∷ decimal s ∷ decimal d ∷ []), refl, plain_line (codes "d") (s ∷ d ∷ []) refl (u32 s two.0, (u32 d two.1, tt)))
 line_body (of.Run s t d) h =
-    let two = both (is_u32 s && is_u32 t) (is_u32 d) h in
-    let first = both (is_u32 s) (is_u32 t) two.0 in
+    let two = and_parts (is_u32 s && is_u32 t) (is_u32 d) h in
+    let first = and_parts (is_u32 s) (is_u32 t) two.0 in
     (join_with_byte 32 (codes "g" ∷ decimal s ∷ decimal t ∷ decimal d ∷ []), refl, plain_line (codes "g") (s ∷ t ∷ d ∷ []) refl (u32 s first.0, (u32 t first.1, (u32 d two.1, tt))))
 line_body (of.Conflicts n) h = (join_with_byte 32 (codes "conflicts" ∷ decimal n ∷ []), refl, plain_line (codes "conflicts") (n ∷ []) refl (u32 n h, tt))
 line_body (of.Row r) h =
-    let a = both (is_u32 r.entry && nat_lt r.place 256 && is_u32 r.strokes && nat_lt 0 (length r.words)) (list_all is_u32 r.words) h in
-    let b = both (is_u32 r.entry && nat_lt r.place 256 && is_u32 r.strokes) (nat_lt 0 (length r.words)) a.0 in
-    let c = both (is_u32 r.entry && nat_lt r.place 256) (is_u32 r.strokes) b.0 in
-    let d = both (is_u32 r.entry) (nat_lt r.place 256) c.0 in
+    let a = and_parts (is_u32 r.entry && nat_lt r.place 256 && is_u32 r.strokes && nat_lt 0 (length r.words)) (list_all is_u32 r.words) h in
+    let b = and_parts (is_u32 r.entry && nat_lt r.place 256 && is_u32 r.strokes) (nat_lt 0 (length r.words)) a.0 in
+    let c = and_parts (is_u32 r.entry && nat_lt r.place 256) (is_u32 r.strokes) b.0 in
+    let d = and_parts (is_u32 r.entry) (nat_lt r.place 256) c.0 in
     let place = ltb-true r.place 256 d.1 in (
       join_with_byte 32 (codes "r" ∷ decimal r.entry ∷ decimal r.place ∷ decimal r.strokes ∷ map decimal r.words),
       refl,

@@ -1,7 +1,6 @@
 pub mod LineTexts
 pub mod FirstLines
 pub mod Examples
-pub mod Values
 pub mod Places
 pub mod Spaced
 pub mod Parts

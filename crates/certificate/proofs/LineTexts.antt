@@ -6,10 +6,10 @@ use Rattle.std.specs.List.{list_all, join_with_byte, AllByRecursion}
 use Rattle.std.specs.Str.{bytes_eq}
 use Rattle.std.proofs.lemmas.Slice.Eq.{bytes_eq-Decides}
 use Rattle.std.proofs.lemmas.List.Folds.{list_any-append}
-use Rattle.std.proofs.lemmas.Bool.{eqb-true, ltb-true}
+use Rattle.std.proofs.lemmas.Bool.{eqb-true, ltb-true, and_parts}
 use Rattle.text_rules.specs.Decimals.{decimal_value}
 use Rattle.text_rules.specs.Lines.{line}
-use Rattle.text_rules.proofs.Numbers.{both, decimal-Digits, decimal-number, number-decimal}
+use Rattle.text_rules.proofs.Numbers.{decimal-Digits, decimal-number, number-decimal}
 use Rattle.text_rules.specs.Lines.{has_byte, parts_between}
 use Rattle.text_rules.proofs.Splits.{parts_between-join, next_part}
 use Rattle.std.proofs.lemmas.List.Splits.{join_with_byte-slice_split}
@@ -21,7 +21,7 @@ use Rattle.certificate.specs.CertReading.{numbers_of, named, if_fits, of_words, 
 digits_plain : (c : ℕ) (xs : List ℕ) → is_ascii_digit c ≡ false → list_all is_ascii_digit xs ≡ true → has_byte c xs ≡ false
 digits_plain c [] no_digit all = refl
 digits_plain c (x ∷ xs) no_digit all =
-    let two = both (is_ascii_digit x) (list_all is_ascii_digit xs) all in
+    let two = and_parts (is_ascii_digit x) (list_all is_ascii_digit xs) all in
     by (x == c) refl two.0 (digits_plain c xs no_digit two.1)
   where
     by : (b : Bool) → (x == c) ≡ b → is_ascii_digit x ≡ true → has_byte c xs ≡ false → (b || has_byte c xs) ≡ false
@@ -65,16 +65,16 @@ u32 n h = ltb-true n (2 ^ 32) h
 -- and for numbers.
 pub all_u32 : (ns : List ℕ) → list_all is_u32 ns ≡ true → AreU32 ns
 all_u32 [] h = tt
-all_u32 (n ∷ ns) h = let two = both (is_u32 n) (list_all is_u32 ns) h in (u32 n two.0, all_u32 ns two.1)
+all_u32 (n ∷ ns) h = let two = and_parts (is_u32 n) (list_all is_u32 ns) h in (u32 n two.0, all_u32 ns two.1)
 
 read_row : (e j n : ℕ) (ws : List ℕ) → fits (of.Row (record { entry = e; place = j; strokes = n; words = ws })) ≡ true →
     read_line (line_text (of.Row (record { entry = e; place = j; strokes = n; words = ws }))) ≡ Some (of.Row (record { entry = e; place = j; strokes = n; words = ws }))
-read_row e j n [] h = absurd (true≢false (sym (both (is_u32 e && nat_lt j 256 && is_u32 n) (nat_lt 0 0) (both (is_u32 e && nat_lt j 256 && is_u32 n && nat_lt 0 0) true h).0).1))
+read_row e j n [] h = absurd (true≢false (sym (and_parts (is_u32 e && nat_lt j 256 && is_u32 n) (nat_lt 0 0) (and_parts (is_u32 e && nat_lt j 256 && is_u32 n && nat_lt 0 0) true h).0).1))
 read_row e j n (w ∷ ws) h =
-    let a = both (is_u32 e && nat_lt j 256 && is_u32 n && nat_lt 0 (length (w ∷ ws))) (list_all is_u32 (w ∷ ws)) h in
-    let b = both (is_u32 e && nat_lt j 256 && is_u32 n) (nat_lt 0 (length (w ∷ ws))) a.0 in
-    let c = both (is_u32 e && nat_lt j 256) (is_u32 n) b.0 in
-    let d = both (is_u32 e) (nat_lt j 256) c.0 in
+    let a = and_parts (is_u32 e && nat_lt j 256 && is_u32 n && nat_lt 0 (length (w ∷ ws))) (list_all is_u32 (w ∷ ws)) h in
+    let b = and_parts (is_u32 e && nat_lt j 256 && is_u32 n) (nat_lt 0 (length (w ∷ ws))) a.0 in
+    let c = and_parts (is_u32 e && nat_lt j 256) (is_u32 n) b.0 in
+    let d = and_parts (is_u32 e) (nat_lt j 256) c.0 in
     let place = ltb-true j 256 d.1 in
     of_line (codes "r") (e ∷ j ∷ n ∷ w ∷ ws) refl refl (u32 e d.0, (omega arith, (u32 n c.1, all_u32 (w ∷ ws) a.1))) ∙ rw h refl
 
@@ -83,10 +83,10 @@ pub read_text : (l : CertLine) → fits l ≡ true → read_line (line_text l) �
 read_text (of.Head v) h = of_line (codes "boundary-certificate") (v ∷ []) refl refl (u32 v h, tt) ∙ rw h refl
 read_text (of.Entries n) h = of_line (codes "entries") (n ∷ []) refl refl (u32 n h, tt) ∙ rw h refl
 read_text (of.States n) h = of_line (codes "states") (n ∷ []) refl refl (u32 n h, tt) ∙ rw h refl
-read_text (of.Distance s d) h = let two = both (is_u32 s) (is_u32 d) h in of_line (codes "d") (s ∷ d ∷ []) refl refl (u32 s two.0, (u32 d two.1, tt)) ∙ rw h refl
+read_text (of.Distance s d) h = let two = and_parts (is_u32 s) (is_u32 d) h in of_line (codes "d") (s ∷ d ∷ []) refl refl (u32 s two.0, (u32 d two.1, tt)) ∙ rw h refl
 read_text (of.Run s t d) h =
-    let two = both (is_u32 s && is_u32 t) (is_u32 d) h in
-    let first = both (is_u32 s) (is_u32 t) two.0 in
+    let two = and_parts (is_u32 s && is_u32 t) (is_u32 d) h in
+    let first = and_parts (is_u32 s) (is_u32 t) two.0 in
     of_line (codes "g") (s ∷ t ∷ d ∷ []) refl refl (u32 s first.0, (u32 t first.1, (u32 d two.1, tt))) ∙ rw h refl
 read_text (of.Conflicts n) h = of_line (codes "conflicts") (n ∷ []) refl refl (u32 n h, tt) ∙ rw h refl
 read_text (of.Row r) h = read_row r.entry r.place r.strokes r.words h

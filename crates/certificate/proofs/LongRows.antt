@@ -6,7 +6,6 @@ use Rattle.std.proofs.lemmas.Slice.Eq.{bytes_eq-Decides}
 use Rattle.std.proofs.lemmas.Fmt.{length-decimal-le}
 use Rattle.std.proofs.lemmas.List.{length-append, take-append-le}
 use Rattle.text_rules.specs.Lines.{has_byte, line, parts_between}
-use Rattle.text_rules.proofs.Numbers.{both}
 use Rattle.text_rules.proofs.Splits.{next_part}
 use Rattle.certificate.specs.CertLines.{fits, is_u32, line_text}
 use Rattle.certificate.specs.CertReading.{numbers_of, of_words}
@@ -14,7 +13,7 @@ use Rattle.certificate.specs.declared.lines.CertLine.{CertLine}
 use Rattle.certificate.specs.declared.lines.CertLine.TheVariants as of
 use Rattle.certificate.specs.inside.Places.{IsPlace}
 use Rattle.outside.specs.Files.{FilesView}
-use Rattle.certificate.specs.inside.Pieces.{PiecesView, Passes}
+use Rattle.certificate.specs.inside.Pieces.{PiecesView, PassesOver}
 use Rattle.certificate.specs.inside.Reads.{IsRowPiece, row_with}
 use Rattle.certificate.proofs.Endings.{IsHopeless, read_body}
 use Rattle.certificate.proofs.LineTexts.{AreU32, IsTextOf, text_read, u32}
@@ -24,6 +23,7 @@ use Rattle.certificate.proofs.Passing.{passes_over}
 use Rattle.certificate.proofs.Skips.{HasPassed, passed_more}
 use Rattle.certificate.proofs.Spaced.{joined, spaced}
 use Rattle.std.proofs.Math.Seq.{take-length}
+use Rattle.std.proofs.lemmas.Bool.{and_parts}
 
 -- what follows this text goes on with a row of these numbers
 abbrev pub IsRowSoFar : List ℕ → List ℕ → Type 0
@@ -75,10 +75,10 @@ short_or_row : (l : CertLine) → fits l ≡ true → (length (line_text l) ≤ 
 short_or_row (of.Head n) h = inl (let len = line_length (codes "boundary-certificate") (n ∷ []) (u32 n h, tt) in omega arith)
 short_or_row (of.Entries n) h = inl (let len = line_length (codes "entries") (n ∷ []) (u32 n h, tt) in omega arith)
 short_or_row (of.States n) h = inl (let len = line_length (codes "states") (n ∷ []) (u32 n h, tt) in omega arith)
-short_or_row (of.Distance s d) h = inl (let two = both (is_u32 s) (is_u32 d) h in let len = line_length (codes "d") (s ∷ d ∷ []) (u32 s two.0, (u32 d two.1, tt)) in omega arith)
+short_or_row (of.Distance s d) h = inl (let two = and_parts (is_u32 s) (is_u32 d) h in let len = line_length (codes "d") (s ∷ d ∷ []) (u32 s two.0, (u32 d two.1, tt)) in omega arith)
 short_or_row (of.Run s t d) h =
-    let two = both (is_u32 s && is_u32 t) (is_u32 d) h in
-    let first = both (is_u32 s) (is_u32 t) two.0 in
+    let two = and_parts (is_u32 s && is_u32 t) (is_u32 d) h in
+    let first = and_parts (is_u32 s) (is_u32 t) two.0 in
     let len = line_length (codes "g") (s ∷ t ∷ d ∷ []) (u32 s first.0, (u32 t first.1, (u32 d two.1, tt))) in
     inl (omega arith)
 short_or_row (of.Conflicts n) h = inl (let len = line_length (codes "conflicts") (n ∷ []) (u32 n h, tt) in omega arith)
@@ -113,24 +113,24 @@ not_row left test row = true≢false (sym (test ∙ (bytes_eq-Decides (take 2 le
 
 -- a part of a line was passed over, and whatever goes on so is the text of no line
 pub record IsGivenUp (done room : ℕ) (text : List ℕ) (old now : PiecesView) (before after : FilesView) : Type 0 where
-  pub passes : Passes text false old now before after
+  pub passes : PassesOver text false old now before after
   pub so_far : HasPassed done room text
   pub hopeless : IsHopeless text
 
 -- a full piece of it was passed over
-pub give_up : (text : List ℕ) (done room : ℕ) (old now passed : PiecesView) (f g : FilesView) → Passes text false old now f g → HasPassed done room text
+pub give_up : (text : List ℕ) (done room : ℕ) (old now passed : PiecesView) (f g : FilesView) → PassesOver text false old now f g → HasPassed done room text
     → has_byte 10 now.left ≡ false → length now.left ≡ 65536 → done + 65536 ≤ room → passed ≡ record now { left = drop 65536 now.left }
     → IsHopeless (text ++ now.left) → IsGivenUp (done + 65536) room (text ++ now.left) old passed f g
 give_up text done room old now passed f g p so_far plain len within is hopeless = record {
   passes =
-      subst (λ xs. Passes (text ++ xs) false old passed f g) (ap (λ n. take n now.left) (sym len) ∙ take-length now.left)
+      subst (λ xs. PassesOver (text ++ xs) false old passed f g) (ap (λ n. take n now.left) (sym len) ∙ take-length now.left)
       (passes_over text 65536 false old now passed f g (omega arith) is p);
   so_far = passed_more done 65536 room text now.left so_far plain len within;
   hopeless = hopeless;
 }
 
 -- a piece can't be one of a row
-pub row_given_up : (text numbers more : List ℕ) (done room : ℕ) (old now piece passed : PiecesView) (f g : FilesView) → Passes text false old now f g → HasPassed done room text
+pub row_given_up : (text numbers more : List ℕ) (done room : ℕ) (old now piece passed : PiecesView) (f g : FilesView) → PassesOver text false old now f g → HasPassed done room text
     → IsRowSoFar text numbers → IsRowPiece None numbers more now piece → has_byte 10 now.left ≡ false → length now.left ≡ 65536 → done + 65536 ≤ room
     → passed ≡ record piece { left = drop 65536 piece.left } → IsGivenUp (done + 65536) room (text ++ now.left) old passed f g
 row_given_up text numbers more done room old now piece passed f g p so_far row none plain len within is =

@@ -7,7 +7,7 @@ use Rattle.std.proofs.Math.Seq.{take-add, take-append_seam}
 use Rattle.outside.specs.Files.{FilesView, Both}
 use Rattle.outside.specs.declared.fault.Way.TheVariants.{Reading}
 use Rattle.certificate.specs.Readers.{OnlyTakes, CountsTaken}
-use Rattle.certificate.specs.inside.Pieces.{PiecesView, Passes}
+use Rattle.certificate.specs.inside.Pieces.{PiecesView, PassesOver}
 
 -- known bytes put before in two steps
 pub prepend_append : (xs ys : List ℕ) (known : Option (List ℕ)) → prepend_known xs (prepend_known ys known) ≡ prepend_known (xs ++ ys) known
@@ -46,7 +46,7 @@ takes_then failed a b c p q = record {
     by false is = is ∙ p.latest
 
 -- passing over goes on
-pub passes_then : (s t : List ℕ) (failed : Bool) (a b c : PiecesView) (f g h : FilesView) → Passes s false a b f g → Passes t failed b c g h → Passes (s ++ t) failed a c f h
+pub passes_then : (s t : List ℕ) (failed : Bool) (a b c : PiecesView) (f g h : FilesView) → PassesOver s false a b f g → PassesOver t failed b c g h → PassesOver (s ++ t) failed a c f h
 passes_then s t failed a b c f g h p q = record {
   ahead =
       p.ahead ∙ sym (prepend_append s b.left g.rest) ∙ ap (prepend_known s) q.ahead
@@ -60,13 +60,13 @@ passes_then s t failed a b c f g h p q = record {
 }
 
 -- bytes are taken further
-pub passes_on : (s : List ℕ) (failed : Bool) (a b c : PiecesView) (f g h : FilesView) → Passes s false a b f g → Passes [] failed b c g h → Passes s failed a c f h
-passes_on s failed a b c f g h p q = subst (λ t. Passes t failed a c f h) (append-nil s) (passes_then s [] failed a b c f g h p q)
+pub passes_on : (s : List ℕ) (failed : Bool) (a b c : PiecesView) (f g h : FilesView) → PassesOver s false a b f g → PassesOver [] failed b c g h → PassesOver s failed a c f h
+passes_on s failed a b c f g h p q = subst (λ t. PassesOver t failed a c f h) (append-nil s) (passes_then s [] failed a b c f g h p q)
 
 -- the first bytes that are held are passed over
 pub passes_over : (s : List ℕ) (count : ℕ) (failed : Bool) (a b c : PiecesView) (f g : FilesView) → count ≤ length b.left → c ≡ record b { left = drop count b.left }
-    → Passes s failed a b f g → Passes (s ++ take count b.left) failed a c f g
-passes_over s count failed a b c f g within is p = subst (λ v. Passes (s ++ take count b.left) failed a v f g) (sym is) (record {
+    → PassesOver s failed a b f g → PassesOver (s ++ take count b.left) failed a c f g
+passes_over s count failed a b c f g within is p = subst (λ v. PassesOver (s ++ take count b.left) failed a v f g) (sym is) (record {
   ahead = p.ahead ∙ ap (λ xs. prepend_known xs g.rest) (ap (λ xs. s ++ xs) (sym (take-append-drop count b.left)) ∙ sym (append_assoc s (take count b.left) (drop count b.left)));
   least = λ m few counted.
       let total = length-append s (take count b.left) in
@@ -81,7 +81,7 @@ passes_over s count failed a b c f g within is p = subst (λ v. Passes (s ++ tak
 -- bytes that were taken are held behind the others
 pub passes_more : (old : PiecesView) (more left : List ℕ) (taken : ℕ) (f g : FilesView) → old.taken < 2 ^ 64 → left ≡ old.left ++ more → length left ≤ 65536
     → taken ≡ min (old.taken + length more) (2 ^ 64 - 1) → f.rest ≡ prepend_known more g.rest → OnlyTakes false f g
-    → Passes [] false old (record { left = left; taken = taken }) f g
+    → PassesOver [] false old (record { left = left; taken = taken }) f g
 passes_more old more left taken f g range is few count moved takes = record {
   ahead = ap (prepend_known old.left) moved ∙ prepend_append old.left more g.rest ∙ ap (λ xs. prepend_known xs g.rest) (sym is);
   least = λ m small counted.
@@ -101,7 +101,7 @@ passes_more old more left taken f g range is few count moved takes = record {
         omega arith
 
 -- nothing was taken
-pub passes_none : (failed : Bool) (old : PiecesView) (f g : FilesView) → g.rest ≡ f.rest → OnlyTakes failed f g → Passes [] failed old old f g
+pub passes_none : (failed : Bool) (old : PiecesView) (f g : FilesView) → g.rest ≡ f.rest → OnlyTakes failed f g → PassesOver [] failed old old f g
 passes_none failed old f g rest takes = record {
   ahead = ap (prepend_known old.left) (sym rest);
   least = λ m small counted. omega arith;

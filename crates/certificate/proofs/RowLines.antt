@@ -3,10 +3,9 @@ use Rattle.std.proofs.Common.{◌≡◌, ℕ, suc, ◌<◌, ◌≤◌, ◌^◌, 
 use Rattle.std.specs.Prelude.{◌&&◌, nat_lt, Some, option_and_then, slice_index, codes}
 use Rattle.std.specs.List.{list_all, slice_range}
 use Rattle.std.specs.Str.{bytes_eq}
-use Rattle.std.proofs.lemmas.Bool.{lt-ltb}
+use Rattle.std.proofs.lemmas.Bool.{lt-ltb, and_parts}
 use Rattle.outside.proofs.Known.{slice_range-rest}
 use Rattle.longest_match.specs.Rows.{Row}
-use Rattle.text_rules.proofs.Numbers.{both}
 use Rattle.certificate.specs.CertLines.{fits, is_u32}
 use Rattle.certificate.specs.CertReading.{if_fits, named}
 use Rattle.certificate.specs.declared.lines.CertLine.TheVariants as of
@@ -19,9 +18,9 @@ all_fit (n ∷ ns) fit = rw (lt-ltb n (2 ^ 32) (fit 0), all_fit ns (λ i. fit (s
 -- a conflict's numbers have room in their fields
 pub row_fits : (r : Row) → list_all is_u32 (r.entry ∷ r.place ∷ r.strokes ∷ []) ≡ true → r.place < 256 → list_all is_u32 r.words ≡ true → 0 < length r.words → fits (of.Row r) ≡ true
 row_fits r three small words some =
-    let first = both (is_u32 r.entry) (is_u32 r.place && (is_u32 r.strokes && true)) three in
-    let others = both (is_u32 r.place) (is_u32 r.strokes && true) first.1 in
-    let last = both (is_u32 r.strokes) true others.1 in
+    let first = and_parts (is_u32 r.entry) (is_u32 r.place && (is_u32 r.strokes && true)) three in
+    let others = and_parts (is_u32 r.place) (is_u32 r.strokes && true) first.1 in
+    let last = and_parts (is_u32 r.strokes) true others.1 in
     rw (first.0, lt-ltb r.place 256 small, last.0, lt-ltb 0 (length r.words) some, words) refl
 
 -- the row of a conflict with a place that has room

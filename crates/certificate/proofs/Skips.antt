@@ -13,7 +13,7 @@ use Rattle.certificate.specs.CertLines.{line_text}
 use Rattle.certificate.specs.CertReading.{of_words}
 use Rattle.certificate.specs.Readers.{BeginsBad, BeginsLong}
 use Rattle.certificate.specs.inside.Places.{IsPlace, IsFirstPlace}
-use Rattle.certificate.specs.inside.Pieces.{PiecesView, Passes}
+use Rattle.certificate.specs.inside.Pieces.{PiecesView, PassesOver}
 use Rattle.certificate.specs.inside.Reads.{EndsWithin, IsHeldLine, IsNextLine, IsSkipped, TakesMore}
 use Rattle.certificate.proofs.LineTexts.{text_read}
 use Rattle.certificate.proofs.Endings.{bad_body, bad_later, bad_open, ends_body, ends_open, IsHopeless, long_at, long_later, read_body}
@@ -32,7 +32,7 @@ told P xs None f = tt
 told P xs (Some rest) f = f rest refl
 
 -- what was ahead of the line, by what is ahead now
-pub ahead : (P : List ℕ → Type 0) (text : List ℕ) (failed : Bool) (old now : PiecesView) (f g : FilesView) → Passes text failed old now f g
+pub ahead : (P : List ℕ → Type 0) (text : List ℕ) (failed : Bool) (old now : PiecesView) (f g : FilesView) → PassesOver text failed old now f g
     → ((rest : List ℕ) → g.rest ≡ Some rest → P ((text ++ now.left) ++ rest)) → IfSome (prepend_known old.left f.rest) P
 ahead P text failed old now f g p each = subst (λ known. IfSome known P) (sym p.ahead) (told P (text ++ now.left) g.rest each)
 
@@ -49,10 +49,10 @@ body_length text left body is = length-append text (take body left) ∙ ap (λ n
 body_plain : (text left : List ℕ) (body : ℕ) → has_byte 10 text ≡ false → IsFirstPlace 10 left body → has_byte 10 (text ++ take body left) ≡ false
 body_plain text left body plain is = has_byte-append 10 text (take body left) plain is.before
 
-more_taken : (text : List ℕ) (room : ℕ) (old now : PiecesView) (f g : FilesView) → Passes text false old now f g → length text ≤ room → room < length text + length now.left → TakesMore room old now
+more_taken : (text : List ℕ) (room : ℕ) (old now : PiecesView) (f g : FilesView) → PassesOver text false old now f g → length text ≤ room → room < length text + length now.left → TakesMore room old now
 more_taken text room old now f g p short long = λ m few counted. let all = p.least m (omega arith) counted in omega arith
 
-long_held : (text : List ℕ) (room : ℕ) (old now : PiecesView) (f g : FilesView) → Passes text false old now f g → has_byte 10 text ≡ false → has_byte 10 now.left ≡ false
+long_held : (text : List ℕ) (room : ℕ) (old now : PiecesView) (f g : FilesView) → PassesOver text false old now f g → has_byte 10 text ≡ false → has_byte 10 now.left ≡ false
     → room < length text + length now.left → IfSome (prepend_known old.left f.rest) (BeginsLong room)
 long_held text room old now f g p plain no_feed long =
     ahead (BeginsLong room) text false old now f g p
@@ -60,7 +60,7 @@ long_held text room old now f g p plain no_feed long =
     (let len = length-append text now.left in omega arith)
     (let len = length-append text now.left in let all = length-append (text ++ now.left) rest in omega arith))
 
-long_line : (text : List ℕ) (room body : ℕ) (old now : PiecesView) (f g : FilesView) → Passes text false old now f g → has_byte 10 text ≡ false → IsFirstPlace 10 now.left body
+long_line : (text : List ℕ) (room body : ℕ) (old now : PiecesView) (f g : FilesView) → PassesOver text false old now f g → has_byte 10 text ≡ false → IsFirstPlace 10 now.left body
     → room < length text + body + 1 → IfSome (prepend_known old.left f.rest) (BeginsLong room)
 long_line text room body old now f g p plain at long =
     ahead (BeginsLong room) text false old now f g p
@@ -69,7 +69,7 @@ long_line text room body old now f g p plain at long =
     (let lt = at.here.within in let len = length-append text now.left in let all = length-append (text ++ now.left) rest in omega arith))
 
 -- of a line that can't be read: it ends in the held bytes
-pub skipped_line : (answer : Read) (text : List ℕ) (done room body : ℕ) (old now : PiecesView) (f g : FilesView) → Passes text false old now f g → HasPassed done room text
+pub skipped_line : (answer : Read) (text : List ℕ) (done room body : ℕ) (old now : PiecesView) (f g : FilesView) → PassesOver text false old now f g → HasPassed done room text
     → IsFirstPlace 10 now.left body → answer ≡ (if nat_le (done + body + 1) room then read.Bad else read.Long) → IsSkipped answer room old now f g
 skipped_line answer text done room body old now f g p so_far at is = subst (λ a. IsSkipped a room old now f g) (sym is) (by (nat_le (done + body + 1) room) refl)
   where
@@ -89,7 +89,7 @@ skipped_line answer text done room body old now f g p so_far at is = subst (λ a
         )
 
 -- it ends with the file
-pub skipped_open : (answer : Read) (text : List ℕ) (done room len : ℕ) (old now : PiecesView) (f g : FilesView) → Passes text false old now f g → HasPassed done room text
+pub skipped_open : (answer : Read) (text : List ℕ) (done room len : ℕ) (old now : PiecesView) (f g : FilesView) → PassesOver text false old now f g → HasPassed done room text
     → has_byte 10 now.left ≡ false → IfSome g.rest (λ more. more ≡ []) → len ≡ length now.left
     → answer ≡ (if nat_le (done + len) room then read.Bad else read.Long) → IsSkipped answer room old now f g
 skipped_open answer text done room len old now f g p so_far no_feed end len_is is = subst (λ a. IsSkipped a room old now f g) (sym is) (by (nat_le (done + len) room) refl)
@@ -112,7 +112,7 @@ skipped_open answer text done room len old now f g p so_far no_feed end len_is i
         )
 
 -- it goes on behind the room
-pub skipped_long : (text : List ℕ) (done room : ℕ) (old now : PiecesView) (f g : FilesView) → Passes text false old now f g → HasPassed done room text
+pub skipped_long : (text : List ℕ) (done room : ℕ) (old now : PiecesView) (f g : FilesView) → PassesOver text false old now f g → HasPassed done room text
     → has_byte 10 now.left ≡ false → room < done + length now.left → IsSkipped read.Long room old now f g
 skipped_long text done room old now f g p so_far no_feed over =
     let first = so_far.len in
@@ -122,7 +122,7 @@ skipped_long text done room old now f g p so_far no_feed over =
     )
 
 -- of a line that may be read: it ends in the held bytes
-pub read_held : (answer : Read) (line : Option CertLine) (text : List ℕ) (done room body : ℕ) (old now new : PiecesView) (f g : FilesView) → Passes text false old now f g
+pub read_held : (answer : Read) (line : Option CertLine) (text : List ℕ) (done room body : ℕ) (old now new : PiecesView) (f g : FilesView) → PassesOver text false old now f g
     → HasPassed done room text → IsFirstPlace 10 now.left body → of_words (parts_between 32 (text ++ take body now.left)) ≡ line → IsHeldLine answer line body done room now new → IsNextLine answer room old new f g
 read_held (read.Line l len) line text done room body old now new f g p so_far at words found =
     let known = text_read ((text ++ take body now.left) ++ 10 ∷ []) l (read_body (text ++ take body now.left) (body_plain text now.left body so_far.plain at) ∙ words ∙ found.0) in
@@ -133,7 +133,7 @@ read_held (read.Line l len) line text done room body old now new f g p so_far at
     let snoc = length-append (text ++ take body now.left) (10 ∷ []) in
     let first = so_far.len in
     let count = found.1 in (
-      subst (λ t. Passes t false old new f g) whole (passes_over text (body + 1) false old now new f g (let lt = at.here.within in omega arith) found.3 p),
+      subst (λ t. PassesOver t false old new f g) whole (passes_over text (body + 1) false old now new f g (let lt = at.here.within in omega arith) found.3 p),
       known.fit,
       omega arith,
       found.2,
@@ -153,7 +153,7 @@ read_held read.Long line text done room body old now new f g p so_far at words f
 read_held read.End line text done room body old now new f g p so_far at words found = absurd found
 
 -- it ends with the file
-pub read_last : (answer : Read) (text : List ℕ) (done room len : ℕ) (old now : PiecesView) (f g : FilesView) → Passes text false old now f g → HasPassed done room text
+pub read_last : (answer : Read) (text : List ℕ) (done room len : ℕ) (old now : PiecesView) (f g : FilesView) → PassesOver text false old now f g → HasPassed done room text
     → has_byte 10 now.left ≡ false → IfSome g.rest (λ more. more ≡ []) → len ≡ done + length now.left → 0 < len
     → answer ≡ (if nat_le len room then read.Bad else read.Long) → IsNextLine answer room old now f g
 read_last answer text done room len old now f g p so_far no_feed end len_is some is = subst (λ a. IsNextLine a room old now f g) (sym is) (by (nat_le len room) refl)
@@ -186,13 +186,13 @@ onward P Q text None q each = tt
 onward P Q text (Some bytes) q each = each bytes q
 
 -- of what was ahead, by what is ahead behind the text
-later : (P Q : List ℕ → Type 0) (text : List ℕ) (old now : PiecesView) (f g : FilesView) → Passes text false old now f g
+later : (P Q : List ℕ → Type 0) (text : List ℕ) (old now : PiecesView) (f g : FilesView) → PassesOver text false old now f g
     → IfSome (prepend_known now.left g.rest) Q → ((bytes : List ℕ) → Q bytes → P (text ++ bytes)) → IfSome (prepend_known old.left f.rest) P
 later P Q text old now f g p q each =
     subst (λ known. IfSome known P) (sym (p.ahead ∙ sym (prepend_append text now.left g.rest))) (onward P Q text (prepend_known now.left g.rest) q each)
 
 -- it can't be read, and was passed over
-pub read_skipped : (answer : Read) (text : List ℕ) (done room left : ℕ) (old now new : PiecesView) (f g h : FilesView) → Passes text false old now f g → HasPassed done room text → 0 < done
+pub read_skipped : (answer : Read) (text : List ℕ) (done room left : ℕ) (old now new : PiecesView) (f g h : FilesView) → PassesOver text false old now f g → HasPassed done room text → 0 < done
     → left ≡ room - done → IsHopeless text → IsSkipped answer left now new g h → IsNextLine answer room old new f h
 read_skipped (read.Line l len) text done room left old now new f g h p so_far some left_is hopeless skipped = absurd skipped
 read_skipped read.End text done room left old now new f g h p so_far some left_is hopeless skipped = absurd skipped
@@ -213,7 +213,7 @@ read_skipped read.Long text done room left old now new f g h p so_far some left_
 )
 
 -- bytes were taken before
-pub read_on : (answer : Read) (room : ℕ) (old now new : PiecesView) (f g h : FilesView) → Passes [] false old now f g → IsNextLine answer room now new g h → IsNextLine answer room old new f h
+pub read_on : (answer : Read) (room : ℕ) (old now new : PiecesView) (f g h : FilesView) → PassesOver [] false old now f g → IsNextLine answer room now new g h → IsNextLine answer room old new f h
 read_on (read.Line l len) room old now new f g h p r = (passes_then [] (line_text l) false old now new f g h p r.0, r.1, r.2, r.3)
 read_on read.End room old now new f g h p r = (passes_then [] [] false old now new f g h p r.0, subst (λ known. IfSome known (λ bytes. bytes ≡ [])) (sym p.ahead) r.1)
 read_on read.Bad room old now new f g h p r = subst (λ known. IfSome known (BeginsBad room)) (sym p.ahead) r

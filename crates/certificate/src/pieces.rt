@@ -4,7 +4,7 @@ ghost use Rattle.std.specs.Prelude.{◌≡◌, ◌<◌, ◌≤◌, ◌+◌, ◌-
 ghost use Rattle.std.specs.Io.KnownBytes.{prepend_known};
 ghost use Rattle.std.specs.List.{slice_range};
 ghost use Rattle.certificate.specs.Readers.{OnlyTakes};
-ghost use Rattle.certificate.specs.inside.Pieces.{Grows, IsReachOf, Passes, PiecesView, no_pieces, piece_size};
+ghost use Rattle.certificate.specs.inside.Pieces.{Grows, IsReachOf, PassesOver, PiecesView, no_pieces, piece_size};
 
 use crate::finding::first_place;
 use outside::{Failed, Files};
@@ -120,7 +120,7 @@ impl Pieces {
         ensures grows { IfOk result (λ count. Grows count self.old.left self.new.left) }
         ensures end { IfOk result (λ count. count ≡ 0
             → IfSome (F.view files.new).rest (λ rest. rest ≡ [])) }
-        ensures passes { Passes [] (is_err result) self.old self.new
+        ensures passes { PassesOver [] (is_err result) self.old self.new
             (F.view files.old) (F.view files.new) }
     {
         move_to_front(&mut self.buffer, self.start, self.end);
@@ -137,7 +137,7 @@ impl Pieces {
         ensures reached { IfOk result (λ reach.
             IsReachOf reach self.new.left (F.view files.new).rest) }
         ensures few { OnOk result (length self.new.left ≤ piece_size) }
-        ensures passes { Passes [] (is_err result) self.old self.new
+        ensures passes { PassesOver [] (is_err result) self.old self.new
             (F.view files.old) (F.view files.new) }
     {
         let mut seen = 0;

@@ -1,26 +1,19 @@
 -- Checks that all hold.
-use Rattle.std.proofs.Common.{◌≡◌, ℕ, ◌+◌, ◌-◌, List, [], ◌∷◌, ◌++◌, map, refl, sym, subst, Bool, true, false, not, cond, true≢false, Option, Some, None, Contains, inl, inr, ◌⊎◌}
-use Rattle.std.specs.Prelude.{◌&&◌, ◌||◌}
+use Rattle.std.proofs.Common.{◌≡◌, ℕ, ◌+◌, ◌-◌, List, [], ◌∷◌, ◌++◌, map, refl, sym, subst, Bool, true, false, not, cond, true≢false, Option, Some, None, Contains, inl, inr}
+use Rattle.std.specs.Prelude.{◌&&◌}
 use Rattle.std.specs.List.{list_all, list_any}
 use Rattle.steno_rules.proofs.Lists.{in_cons, in_first, in_later, none_in_nil}
+pub use Rattle.std.proofs.lemmas.Bool.{and_parts as both, and_from as both_back, or_cases as either}
 use Rattle.certificate_laws.specs.Checks.{Check, accepted, first_failure, outcome_by}
 use Rattle.certificate_laws.specs.inside.Holding.{AllHold}
-
-pub both : (x y : Bool) → (x && y) ≡ true → (x ≡ true) × (y ≡ true)
-both true true e = (refl, refl)
-both true false e = absurd (true≢false (sym e))
-both false y e = absurd (true≢false (sym e))
-
-pub both_back : (x y : Bool) → x ≡ true → y ≡ true → (x && y) ≡ true
-both_back x y a b = rw (a, b) refl
-
-pub either : (x y : Bool) → (x || y) ≡ true → (x ≡ true) ⊎ (y ≡ true)
-either true y e = inl refl
-either false y e = inr e
 
 pub AllHold-append : (xs ys : List Check) → AllHold (xs ++ ys) → AllHold xs × AllHold ys
 AllHold-append [] ys h = (tt, h)
 AllHold-append (x ∷ xs) ys h = let rest = AllHold-append xs ys h.1 in ((h.0, rest.0), rest.1)
+
+pub AllHold-join : (xs ys : List Check) → AllHold xs → AllHold ys → AllHold (xs ++ ys)
+AllHold-join [] ys a b = b
+AllHold-join (x ∷ xs) ys a b = (a.0, AllHold-join xs ys a.1 b)
 
 -- where none is the first to fail all hold
 pub none_fails : (checks : List Check) → first_failure None checks ≡ None → AllHold checks

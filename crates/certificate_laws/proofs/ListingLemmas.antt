@@ -9,7 +9,7 @@ use Rattle.steno_rules.specs.States.{State, IsState, targets, kept_targets}
 use Rattle.steno_rules.specs.StateNumbers.{state_number}
 use Rattle.steno_rules.specs.ClosureGraphs.{numbers_by}
 use Rattle.steno_rules.proofs.Lists.{in_map, in_map_of, in_filter}
-use Rattle.closure_laws.specs.Listings.{IsListed, IsListing, IsListedHit}
+use Rattle.closure_laws.specs.Listings.{IsListedState, IsListing, IsListedHit}
 use Rattle.closure_laws.proofs.StateNumberLemmas.{number_of_fresh}
 use Rattle.closure_laws.proofs.NumberStateLemmas.{state_of_number-there}
 use Rattle.certificate.specs.CertTexts.{Listed}
@@ -53,7 +53,7 @@ targets_at entries flags s are is = ap (numbers_by entries (targets entries (fla
 -- what the moves of a certificate say of one move
 pub listed_move : (entries : List (List ℕ)) (flags : List Bool) (all : List Listed) (s t : State) (d : ℕ) → AreWords entries (flagged_entries entries flags) → IsState entries (flagged_entries entries flags) s →
     leads_on_by ((closure_of entries flags).targets) all (record { state = state_number entries s; distance = d }) ≡ true → Contains (targets entries (flagged_entries entries flags) s) t →
-    (k : ℕ) × IsListed entries (listing all) t k × (k ≤ d + 1)
+    (k : ℕ) × IsListedState entries (listing all) t k × (k ≤ d + 1)
 listed_move entries flags all s t d are is leads there =
     let on : list_all (is_listed_within all (d + 1)) (map (state_number entries) (targets entries (flagged_entries entries flags) s)) ≡ true =
     subst (λ ts. list_all (is_listed_within all (d + 1)) ts ≡ true) (targets_at entries flags s are is) leads in

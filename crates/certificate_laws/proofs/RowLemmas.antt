@@ -31,7 +31,7 @@ due_none before (suc zero) e = true≢false (sym e)
 due_none before (suc (suc zero)) e = true≢false (sym e)
 due_none before (suc (suc (suc n))) e = true≢false (sym e)
 
-no_row : (before : Lines) (l : Option CertLine) → may_follow before l ≡ true → row_of_line l ≡ None
+pub no_row : (before : Lines) (l : Option CertLine) → may_follow before l ≡ true → row_of_line l ≡ None
 no_row before None e = refl
 no_row before (Some (of.Head v)) e = refl
 no_row before (Some (of.Entries n)) e = refl
@@ -87,7 +87,7 @@ drop_line lines n l e =
     let less : n + 1 - 1 ≡ n = omega arith in
     drop_at lines n (Some l) (there (slice_get lines n) l (subst (λ k. option_and_then (λ y. y) (slice_get lines k) ≡ Some l) less e))
 
-row_of : (o : Option CertLine) → is_row_line o ≡ true → (r : Row) × (o ≡ Some (of.Row r))
+pub row_of : (o : Option CertLine) → is_row_line o ≡ true → (r : Row) × (o ≡ Some (of.Row r))
 row_of None e = absurd (true≢false (sym e))
 row_of (Some (of.Head v)) e = absurd (true≢false (sym e))
 row_of (Some (of.Entries n)) e = absurd (true≢false (sym e))
@@ -98,7 +98,7 @@ row_of (Some (of.Conflicts n)) e = absurd (true≢false (sym e))
 row_of (Some (of.Row r)) e = (r, refl)
 row_of (Some of.End) e = absurd (true≢false (sym e))
 
-end_of : (o : Option CertLine) → is_end_line o ≡ true → o ≡ Some of.End
+pub end_of : (o : Option CertLine) → is_end_line o ≡ true → o ≡ Some of.End
 end_of None e = absurd (true≢false (sym e))
 end_of (Some (of.Head v)) e = absurd (true≢false (sym e))
 end_of (Some (of.Entries n)) e = absurd (true≢false (sym e))

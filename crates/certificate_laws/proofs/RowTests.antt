@@ -4,24 +4,11 @@ use Rattle.std.specs.Prelude.{◌&&◌, ◌||◌, ◌==◌, nat_lt, Option, Some
 use Rattle.std.specs.Bool.{Decides}
 use Rattle.std.specs.List.{list_any, concat, range_with_len}
 use Rattle.std.proofs.lemmas.Slice.Eq.{bytes_eq-Decides}
-use Rattle.std.proofs.lemmas.Bool.{cases_lt, eqb-true, eq-eqb, ltb-true, lt-ltb}
+use Rattle.std.proofs.lemmas.Bool.{cases_lt, eqb-true, eq-eqb, ltb-true, lt-ltb, and_parts, or_left, or_right}
 use Rattle.steno_rules.specs.Outlines.{outline_of}
 use Rattle.steno_rules.specs.Segments.{last_piece}
 use Rattle.steno_rules.specs.Conflicts.{IsCut, Shows, outlines_of, joined_strokes}
 use Rattle.certificate_laws.specs.RowTests.{has_cut, is_piece, words_show}
-
-both : (x y : Bool) → (x && y) ≡ true → (x ≡ true) × (y ≡ true)
-both true true e = (refl, refl)
-both true false e = absurd (true≢false (sym e))
-both false y e = absurd (true≢false (sym e))
-
-or_left : (x y : Bool) → x ≡ true → (x || y) ≡ true
-or_left true y e = refl
-or_left false y e = absurd (true≢false (sym e))
-
-or_right : (x y : Bool) → y ≡ true → (x || y) ≡ true
-or_right true y e = refl
-or_right false y e = e
 
 record InRange (test : ℕ → Bool) (a n : ℕ) : Type 0 where
   at : ℕ
@@ -75,9 +62,9 @@ words_show-Decides entries words e place = (there, back)
 
     there : words_show entries words e place ≡ true → Shows entries words e place
     there h =
-        let a = both (is_piece (last_piece entries (joined_strokes entries words)) outline && nat_lt 0 place && nat_lt place (length outline)) (has_cut (outlines_of entries words) cut) h in
-        let b = both (is_piece (last_piece entries (joined_strokes entries words)) outline && nat_lt 0 place) (nat_lt place (length outline)) a.0 in
-        let c = both (is_piece (last_piece entries (joined_strokes entries words)) outline) (nat_lt 0 place) b.0 in
+        let a = and_parts (is_piece (last_piece entries (joined_strokes entries words)) outline && nat_lt 0 place && nat_lt place (length outline)) (has_cut (outlines_of entries words) cut) h in
+        let b = and_parts (is_piece (last_piece entries (joined_strokes entries words)) outline && nat_lt 0 place) (nat_lt place (length outline)) a.0 in
+        let c = and_parts (is_piece (last_piece entries (joined_strokes entries words)) outline) (nat_lt 0 place) b.0 in
         record {
           piece = (is_piece-Decides (last_piece entries (joined_strokes entries words)) outline).0 c.0;
           after_start = ltb-true 0 place c.1;

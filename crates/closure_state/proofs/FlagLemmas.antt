@@ -1,7 +1,6 @@
 -- The flags of a node, by those of its children.
-use Rattle.std.proofs.Common.{map, ap₂, set, get_or-set_other, get_or-set_same, length-set, ◌≡◌, ◌≢◌, ℕ, suc, ◌+◌, ◌<◌, ◌≤◌, List, [], ◌∷◌, ◌++◌, length, drop, get_or, refl, sym, ap, subst, ◌∙◌, arith, Bool, true, false, true≢false, inl, inr, ◌⊎◌, ◌↔◌, Some, None, Contains, IsTrue, Less, Equal, take-append-drop, append_assoc, append-nil, nat_eq}
+use Rattle.std.proofs.Common.{map, ap₂, set, get_or-set_other, get_or-set_same, length-set, ◌≡◌, ◌≢◌, ℕ, suc, ◌+◌, ◌<◌, ◌≤◌, List, [], ◌∷◌, ◌++◌, length, drop, get_or, refl, sym, ap, subst, ◌∙◌, arith, Bool, true, false, true≢false, inl, inr, ◌⊎◌, ◌↔◌, Some, None, Contains, IsTrue, Less, take-append-drop, append_assoc, append-nil, nat_eq}
 use Rattle.std.specs.Prelude.{slice_index_or}
-use Rattle.std.specs.Ordering.{nat_cmp}
 use Rattle.std.proofs.lemmas.Bool.{cases_lt, cases_order}
 use Rattle.std.proofs.lemmas.Bool.Decides.{nat_tests}
 use Rattle.std.proofs.lemmas.List.{length_push, get_or_default, length-drop, length-map, get_or-map}
@@ -20,6 +19,7 @@ use Rattle.translation_laws.proofs.WordSetLemmas.{word_set-of}
 use Rattle.outline_trie.specs.Tries.{IsNode, node_strokes, child_of, AreChildren}
 use Rattle.outline_trie.proofs.LookLemmas.{root_is, number_there}
 use Rattle.match_window.proofs.RowLemmas.{child_is, node_some}
+use Rattle.outline_trie.proofs.OrderLemmas.{nat_cmp_same}
 use Rattle.closure_state.specs.declared.word_set.Flags.{Flags}
 use Rattle.closure_state.specs.inside.NodeFlags.{AreFlags, AreFlagsBehind, GoesOn, HasGoing, flags_at}
 use Rattle.closure_state.proofs.WaitLemmas.{flag_of}
@@ -45,13 +45,10 @@ word_some entries flags x e are some =
 
 -- ---- children
 
-nat_same : (c : ℕ) → nat_cmp c c ≡ Equal
-nat_same c = grind (arith, nat_tests)
-
 -- a longer list isn't below its front
 not_below : (x : List ℕ) (c : ℕ) (r : List ℕ) → outline_cmp (x ++ c ∷ r) x ≡ Less → ⊥
 not_below [] c r h = cc
-not_below (d ∷ x) c r h = not_below x c r (rw (nat_same d) at h)
+not_below (d ∷ x) c r h = not_below x c r (rw (nat_cmp_same d) at h)
 
 -- A child's number is greater.
 pub child_later : (entries : List (List ℕ)) (node code child : ℕ) → IsNode entries node → child_of entries node code ≡ Some child → node < child

@@ -2,7 +2,7 @@
 use Rattle.std.proofs.Common.{if◌then◌else◌, ◌≡◌, ◌≢◌, ℕ, ◌+◌, ◌<◌, ◌≤◌, ◌^◌, List, [], ◌∷◌, ◌++◌, length, map, filter, flat_map, refl, sym, ap, subst, ◌∙◌, arith, Bool, true, false, inl, inr, ◌⊎◌, Option, Some, None, Contains, AllPairs, nat_eq, nat_le, nat_lt, ◌||◌}
 use Rattle.std.proofs.lemmas.List.Elements.{filter-append}
 use Rattle.std.proofs.lemmas.List.Kept.{AllPairs-filter}
-use Rattle.std.proofs.lemmas.Bool.{cases_order}
+use Rattle.std.proofs.lemmas.Bool.{cases_order, le-leb}
 use Rattle.std.proofs.lemmas.Bool.Decides.{nat_tests}
 use Rattle.steno_rules.specs.Outlines.{is_word}
 use Rattle.steno_rules.specs.States.{State as Abstract, state_of, targets_by, targets, kept_targets, is_kept, strokes_in, later_mark, is_open}
@@ -36,9 +36,6 @@ for_stroke all entries words s c some = let t = some_there entries words s c (fo
 from_on : ℕ → List ℕ → List ℕ
 from_on bound cs = filter (λ c. nat_le bound c) cs
 
-test_le : (a b : ℕ) → a ≤ b → nat_le a b ≡ true
-test_le a b h = grind (arith, nat_tests)
-
 told_le : (a b : ℕ) → nat_le a b ≡ true → a ≤ b
 told_le a b h = grind (arith, nat_tests)
 
@@ -48,7 +45,7 @@ in_from bound cs c has = let both = (in_filter (λ c. nat_le bound c) cs c).0 ha
 
 in_from_of : (bound : ℕ) (cs : List ℕ) (c : ℕ) → Contains cs c → bound ≤ c → Contains (from_on bound cs) c
 unfolding from_on
-in_from_of bound cs c has up = (in_filter (λ c. nat_le bound c) cs c).1 (has, test_le bound c up)
+in_from_of bound cs c has up = (in_filter (λ c. nat_le bound c) cs c).1 (has, le-leb bound c up)
 
 rising_from : (bound : ℕ) (cs : List ℕ) → AllPairs (λ a b. a < b) cs → AllPairs (λ a b. a < b) (from_on bound cs)
 unfolding from_on
@@ -87,7 +84,7 @@ from_done all entries words s bound none =
 -- all strokes are those from 0 on
 from_all : (cs : List ℕ) → filter (λ c. nat_le 0 c) cs ≡ cs
 from_all [] = refl
-from_all (c ∷ cs) = rw (test_le 0 c (omega arith)) (ap (λ l. c ∷ l) (from_all cs))
+from_all (c ∷ cs) = rw (le-leb 0 c (omega arith)) (ap (λ l. c ∷ l) (from_all cs))
 
 -- All targets are those from the first stroke on,
 pub from_start : (entries words : List (List ℕ)) (s : Abstract) → targets_from true entries words s 0 ≡ targets entries words s

@@ -1,9 +1,8 @@
 -- Which numbers stand for a state, and for a hit.
-use Rattle.std.proofs.Common.{◌≡◌, ℕ, zero, suc, ◌-◌, ◌<◌, ◌≤◌, List, [], ◌∷◌, length, drop, refl, sym, ap, subst, ◌∙◌, arith, true, false, true≢false, inl, inr, ◌⊎◌, ◌↔◌, Option, Some, None, nat_eq, nat_le, IfSome, IsTrue}
+use Rattle.std.proofs.Common.{◌≡◌, ℕ, zero, suc, ◌-◌, ◌<◌, ◌≤◌, List, [], ◌∷◌, length, drop, refl, sym, ap, subst, ◌∙◌, arith, true, false, true≢false, inl, inr, ◌⊎◌, ◌↔◌, Option, Some, None, nat_eq, IfSome, IsTrue}
 use Rattle.std.specs.Prelude.{option_map, is_some}
 use Rattle.std.specs.Cmp.Lexicographic.{bytes_decides}
-use Rattle.std.proofs.lemmas.Bool.{cases_lt}
-use Rattle.std.proofs.lemmas.Bool.Decides.{nat_tests}
+use Rattle.std.proofs.lemmas.Bool.{cases_lt, le-leb, eqb-true, eq-eqb}
 use Rattle.std.proofs.lemmas.List.{get_or_default}
 use Rattle.steno_rules.specs.Outlines.{is_entry, entry_number, outline_of}
 use Rattle.steno_rules.specs.Nodes.{nodes}
@@ -13,7 +12,6 @@ use Rattle.steno_rules.proofs.Numbers.{entry_number-Some, number_test}
 use Rattle.steno_rules.proofs.Entries.{is_entry-Decides}
 use Rattle.std.proofs.lemmas.List.Elements.{Contains-get_or}
 use Rattle.steno_rules.proofs.NodeLemmas.{nodes-Contains}
-use Rattle.translation_laws.proofs.LastPieces.{last_piece-short}
 use Rattle.stroke.specs.Pieces.{piece_of}
 use Rattle.stroke.specs.declared.pieces.Piece.{Piece}
 use Rattle.closure_laws.proofs.StateLemmas.{EndsOther}
@@ -21,16 +19,13 @@ use Rattle.closure_laws.proofs.StateNumberLemmas.{end_of}
 use Rattle.outline_trie.specs.Tries.{IsNode, node_strokes, suffix_of}
 use Rattle.outline_trie.proofs.LookLemmas.{number_there, root_is}
 use Rattle.match_window.proofs.RowLemmas.{node_some}
+use Rattle.steno_rules.proofs.SegmentLemmas.{last_piece-short}
 use Rattle.closure_state.specs.declared.state.State.{State}
 use Rattle.closure_state.specs.NodeStates.{state_at, IsNodeState, IsNodeHit}
 
--- the test of a suffix
-test_le : (a b : ℕ) → a ≤ b → nat_le a b ≡ true
-test_le a b h = grind (arith, nat_tests)
-
 -- the node of a node's last strokes
 suffix_at : (entries : List (List ℕ)) (node d : ℕ) → d ≤ length (node_strokes entries node) → suffix_of entries node d ≡ entry_number (nodes entries) (drop (length (node_strokes entries node) - d) (node_strokes entries node))
-suffix_at entries node d short = rw (test_le d (length (node_strokes entries node)) short) refl
+suffix_at entries node d short = rw (le-leb d (length (node_strokes entries node)) short) refl
 
 -- A node is the end of another one where that is its suffix,
 pub end_told : (entries : List (List ℕ)) (node end d : ℕ) → d ≡ length (node_strokes entries end) → length (node_strokes entries end) ≤ length (node_strokes entries node) → suffix_of entries node d ≡ Some end → EndsOther (node_strokes entries node) (node_strokes entries end)
@@ -61,19 +56,12 @@ node_state entries words s window word opens ends mark = record {
   };
 }
 
--- what a test of numbers tells
-same_of : (a b : ℕ) → nat_eq a b ≡ true → a ≡ b
-same_of a b h = grind (arith, nat_tests)
-
-test_same : (a b : ℕ) → a ≡ b → nat_eq a b ≡ true
-test_same a b h = grind (arith, nat_tests)
-
 -- The look-up of the suffix is the test.
 pub ends_some : (entries : List (List ℕ)) (node end d found : ℕ) → d ≡ length (node_strokes entries end) → length (node_strokes entries end) ≤ length (node_strokes entries node) → IsNode entries end → Some found ≡ suffix_of entries node d →
     IsTrue (nat_eq found end) ↔ EndsOther (node_strokes entries node) (node_strokes entries end)
 ends_some entries node end d found long short inside is = (
-  λ t. end_told entries node end d long short (sym is ∙ ap (λ n. Some n) (same_of found end t)),
-  λ ends. (let same : Some found ≡ Some end = is ∙ end_is entries node end d long short inside ends in test_same found end cc),
+  λ t. end_told entries node end d long short (sym is ∙ ap (λ n. Some n) (eqb-true found end t)),
+  λ ends. (let same : Some found ≡ Some end = is ∙ end_is entries node end d long short inside ends in eq-eqb found end cc),
 )
 
 pub ends_none : (entries : List (List ℕ)) (node end d : ℕ) → d ≡ length (node_strokes entries end) → length (node_strokes entries end) ≤ length (node_strokes entries node) → IsNode entries end → None ≡ suffix_of entries node d →

@@ -72,7 +72,8 @@ fn ends_with(trie: &Trie, node: u32, end: u32) -> bool
 fn is_end(trie: &Trie, window: u32, word: u32) -> bool
     requires window { IsNode trie.now window }
     requires word { IsNode trie.now word }
-    ensures { IsTrue result ↔ EndsOther (node_strokes trie.now window) (node_strokes trie.now word) }
+    ensures { IsTrue result ↔
+        EndsOther (node_strokes trie.now window) (node_strokes trie.now word) }
 {
     if trie.depth(word) <= trie.depth(window) {
         ends_with(trie, window, word)

@@ -71,7 +71,8 @@ impl WordSet {
     pub fn new(alloc: Global, trie: &Trie, words: &[bool]) -> Result<WordSet, AllocError>
         requires { length words.now ≡ length trie.now }
         ensures set { IfOk result (IsWordSet trie.now) }
-        ensures words { IfOk result (λ set. words_in trie.now set ≡ flagged_entries trie.now words.now) }
+        ensures words { IfOk result (λ set. words_in trie.now set ≡
+            flagged_entries trie.now words.now) }
     {
         let count = trie.node_count() as usize;
         let none = Flags {

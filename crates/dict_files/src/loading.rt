@@ -34,7 +34,8 @@ fn read_file<F: Files>(
     ensures leaves { LeavesFiles (F.view files.old) (F.view files.new) }
     ensures opened { IsLastOpened name.now (F.view files.old) (F.view files.new) }
     ensures later { (F.view files.old).faults ≤ (F.view files.new).faults }
-    ensures steady { Steady (is_load_failed result) (F.view files.old).faults (F.view files.new).faults }
+    ensures steady { Steady (is_load_failed result)
+        (F.view files.old).faults (F.view files.new).faults }
 {
     let bytes = match read_all(alloc, files, name, MAX_BYTES) {
         Ok(bytes) => bytes,
@@ -50,10 +51,13 @@ fn read_dictionaries<F: Files>(
     args: &[String],
 ) -> Result<Vec<Dictionary>, LoadFault>
     requires { length args.now ≤ most_dictionaries }
-    ensures ok { IfOk result (λ all. AreRead (map string_bytes args.now) (F.view files.old).held all.items) }
-    ensures err { IfErr result (IsLoadCause (map string_bytes args.now) (F.view files.old) (F.view files.new)) }
+    ensures ok { IfOk result
+        (λ all. AreRead (map string_bytes args.now) (F.view files.old).held all.items) }
+    ensures err { IfErr result
+        (IsLoadCause (map string_bytes args.now) (F.view files.old) (F.view files.new)) }
     ensures reads { ReadsOnly (map string_bytes args.now) (F.view files.old) (F.view files.new) }
-    ensures steady { Steady (is_load_failed result) (F.view files.old).faults (F.view files.new).faults }
+    ensures steady { Steady (is_load_failed result)
+        (F.view files.old).faults (F.view files.new).faults }
 {
     let mut dictionaries = Vec::with_capacity(alloc, args.len())?;
     for (place, arg) in args.iter().enumerate() {
@@ -78,9 +82,11 @@ fn word_files(alloc: Global, args: &[String]) -> Result<Vec<bool>, AllocError>
 fn read_few<F: Files>(alloc: Global, files: &mut F, args: &[String]) -> Result<Stack, LoadFault>
     requires { length args.now ≤ most_dictionaries }
     ensures ok { IfOk result (IsLoaded (map string_bytes args.now) (F.view files.old).held) }
-    ensures err { IfErr result (IsLoadCause (map string_bytes args.now) (F.view files.old) (F.view files.new)) }
+    ensures err { IfErr result
+        (IsLoadCause (map string_bytes args.now) (F.view files.old) (F.view files.new)) }
     ensures reads { ReadsOnly (map string_bytes args.now) (F.view files.old) (F.view files.new) }
-    ensures steady { Steady (is_load_failed result) (F.view files.old).faults (F.view files.new).faults }
+    ensures steady { Steady (is_load_failed result)
+        (F.view files.old).faults (F.view files.new).faults }
 {
     let dictionaries = read_dictionaries(alloc, files, args)?;
     let kinds = word_files(alloc, args)?;
@@ -99,9 +105,11 @@ pub fn read_stack<F: Files>(
     args: &[String],
 ) -> Result<Stack, LoadFault>
     ensures ok { IfOk result (IsLoaded (map string_bytes args.now) (F.view files.old).held) }
-    ensures err { IfErr result (IsLoadCause (map string_bytes args.now) (F.view files.old) (F.view files.new)) }
+    ensures err { IfErr result
+        (IsLoadCause (map string_bytes args.now) (F.view files.old) (F.view files.new)) }
     ensures reads { ReadsOnly (map string_bytes args.now) (F.view files.old) (F.view files.new) }
-    ensures steady { Steady (is_load_failed result) (F.view files.old).faults (F.view files.new).faults }
+    ensures steady { Steady (is_load_failed result)
+        (F.view files.old).faults (F.view files.new).faults }
 {
     if args.len() > MAX_DICTIONARIES {
         return Err(LoadFault::TooMany {

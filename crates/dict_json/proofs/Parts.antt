@@ -1,8 +1,7 @@
 -- How many strokes a text spells, and which texts spell none.
-use Rattle.std.proofs.Common.{ℕ, zero, ◌≡◌, ◌<◌, suc, get_or, true≢false, List, [], ◌∷◌, length, refl, sym, ap, ◌∙◌, arith, None, Some, Option, true, is_none, option_map}
+use Rattle.std.proofs.Common.{ℕ, ◌≡◌, suc, List, [], ◌∷◌, length, refl, sym, ap, ◌∙◌, None, Some, Option, option_map}
 use Rattle.std.proofs.lemmas.List.{length-map}
-use Rattle.std.proofs.lemmas.List.Quantifiers.{position-Some}
-use Rattle.steno_order.specs.Reading.{stroke_of, all_some, readings, spelt_strokes, unreadable_part}
+use Rattle.steno_order.specs.Reading.{stroke_of, all_some, readings, spelt_strokes}
 use Rattle.steno_order.specs.Spelling.{parts_of}
 
 -- as many as there are values
@@ -17,13 +16,3 @@ all_some-length (Some o ∷ os) xs e = by (all_some os) (all_some-length os) e
 
 pub spelt_strokes-length : (text strokes : List ℕ) → spelt_strokes text ≡ Some strokes → length strokes ≡ length (parts_of text)
 spelt_strokes-length text strokes e = all_some-length (readings text) strokes e ∙ length-map (parts_of text) stroke_of
-
--- with a value that is none the whole is none
-all_some-none : (os : List (Option ℕ)) (i : ℕ) → i < length os → is_none (get_or os i None) ≡ true → all_some os ≡ None
-all_some-none [] i below e = absurd (omega arith)
-all_some-none (None ∷ os) i below e = refl
-all_some-none (Some o ∷ os) zero below e = absurd (true≢false (sym e))
-all_some-none (Some o ∷ os) (suc i) below e = ap (option_map (λ xs. o ∷ xs)) (all_some-none os i (omega arith) e)
-
-pub unreadable-none : (text : List ℕ) (part : ℕ) → unreadable_part text ≡ Some part → spelt_strokes text ≡ None
-unreadable-none text part e = let found = position-Some is_none (readings text) part None e in all_some-none (readings text) part found.0 found.1

@@ -14,21 +14,17 @@ use Rattle.steno_order.specs.Keys.{slash}
 abbrev pub most_generated : ℕ
 most_generated = 100000
 
--- the parts of a text between its spaces
-abbrev pub spaced_texts : List ℕ → List (List ℕ)
-spaced_texts text = parts_between 32 text
-
--- what a stroke's left keys are written as, by the place of the text
+-- what a stroke's left keys are written as, by the place of the text; 32 is a space
 abbrev pub left_texts : List (List ℕ)
-left_texts = [] ∷ spaced_texts (codes "S T K P W H R ST TP KW PH HR TKPW SKWR STPH")
+left_texts = [] ∷ parts_between 32 (codes "S T K P W H R ST TP KW PH HR TKPW SKWR STPH")
 
 -- what its vowels are written as
 abbrev pub vowel_texts : List (List ℕ)
-vowel_texts = spaced_texts (codes "A O E U AO AE EU AOEU")
+vowel_texts = parts_between 32 (codes "A O E U AO AE EU AOEU")
 
 -- what its right keys are written as
 abbrev pub right_texts : List (List ℕ)
-right_texts = [] ∷ spaced_texts (codes "F R P B L G T S D Z PB PL BG TS FRPB")
+right_texts = [] ∷ parts_between 32 (codes "F R P B L G T S D Z PB PL BG TS FRPB")
 
 -- the draw after x
 abbrev pub drawn : ℕ → ℕ

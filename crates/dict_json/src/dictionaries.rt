@@ -80,8 +80,16 @@ impl Model for Dictionary {
 impl Dictionary {
     /// The dictionary of these entries, skipped keys and number of folded keys.
     pub(crate) fn new(entries: Vec<DictEntry>, skipped: Vec<Text>, folded: u64) -> Dictionary
-        requires { IsDictionary (record { entries = entries.items; skipped = skipped.items; folded = folded }) }
-        ensures { result ≡ record { entries = entries.items; skipped = skipped.items; folded = folded } }
+        requires { IsDictionary (record {
+          entries = entries.items;
+          skipped = skipped.items;
+          folded = folded;
+        }) }
+        ensures { result ≡ record {
+          entries = entries.items;
+          skipped = skipped.items;
+          folded = folded;
+        } }
     {
         Dictionary {
             entries,

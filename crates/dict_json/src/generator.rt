@@ -66,7 +66,8 @@ impl Draws {
     /// The next key: one draw for the number of its strokes, and one for each stroke.
     fn key(&mut self, alloc: Global) -> Result<String, AllocError>
         ensures key { IfOk result (λ key. string_bytes key ≡ key_text (drawn self.old)) }
-        ensures draws { OnOk result (self.new ≡ after_draws (entry_length (drawn self.old)) (drawn self.old)) }
+        ensures draws { OnOk result (self.new ≡
+            after_draws (entry_length (drawn self.old)) (drawn self.old)) }
     {
         let strokes = 1 + self.draw() % 3;
         let mut key = String::new(alloc);
@@ -80,7 +81,8 @@ impl Draws {
 /// Adds a stroke after those before it.
 fn push_part(key: &mut String, place: u64, number: u64) -> Result<(), AllocError>
     requires { number < 2048 }
-    ensures { OnOk result (string_bytes key.new ≡ string_bytes key.old ++ ((if nat_lt 0 place then slash ∷ [] else []) ++ stroke_text number)) }
+    ensures { OnOk result (string_bytes key.new ≡ string_bytes key.old
+        ++ ((if nat_lt 0 place then slash ∷ [] else []) ++ stroke_text number)) }
 {
     if place > 0 {
         key.push_str("/")?;
@@ -129,7 +131,9 @@ fn members(alloc: Global, start: u64, count: u32) -> Result<String, AllocError>
 /// Adds a member after those before it: a key that needs no escape, and the text of its number.
 fn push_member(members: &mut String, key: &str, number: u32) -> Result<(), AllocError>
     requires { flat_map escaped key.now ≡ key.now }
-    ensures { OnOk result (string_bytes members.new ≡ string_bytes members.old ++ ((if nat_lt 0 number then codes ",\n" else []) ++ (quoted key.now ++ codes ": " ++ quoted (codes "w" ++ decimal number)))) }
+    ensures { let before = if nat_lt 0 number then codes ",\n" else [] in
+        let member = quoted key.now ++ codes ": " ++ quoted (codes "w" ++ decimal number) in
+        OnOk result (string_bytes members.new ≡ string_bytes members.old ++ (before ++ member)) }
 {
     if number > 0 {
         members.push_str(",\n")?;
@@ -140,7 +144,8 @@ fn push_member(members: &mut String, key: &str, number: u32) -> Result<(), Alloc
 /// Writes a member: a key that needs no escape, and the text of its number.
 fn write_member(members: &mut String, key: &str, number: u32) -> Result<(), AllocError>
     requires { flat_map escaped key.now ≡ key.now }
-    ensures { OnOk result (string_bytes members.new ≡ string_bytes members.old ++ (quoted key.now ++ codes ": " ++ quoted (codes "w" ++ decimal number))) }
+    ensures { OnOk result (string_bytes members.new ≡ string_bytes members.old
+        ++ (quoted key.now ++ codes ": " ++ quoted (codes "w" ++ decimal number))) }
 {
     write!(members, "\"{key}\": \"w{number}\"")
 }
@@ -169,7 +174,8 @@ pub fn generated(alloc: Global, start: u64, count: u32) -> Result<Vec<u8>, Alloc
     requires { count ≤ most_generated }
     ensures bytes { IfOk result (λ bytes. bytes.items ≡ generated_text start count) }
     ensures few { IfOk result (λ bytes. length bytes.items < 2 ^ 32) }
-    ensures reads { IfOk result (λ bytes. (d : DictionaryView) × (dictionary_outcome bytes.items ≡ dictionary d) × IsWhole d) }
+    ensures reads { IfOk result (λ bytes. (d : DictionaryView)
+        × (dictionary_outcome bytes.items ≡ dictionary d) × IsWhole d) }
 {
     Ok(object(alloc, start, count)?.into_bytes())
 }

@@ -16,7 +16,8 @@ pub fn limits()
 /// The keys of an object that is read come in order of their bytes, each once. So the first of some of its keys is the least
 /// by bytes, and the last the greatest.
 pub fn keys_in_order()
-    ensures { (x : List ℕ) (ms : Members) → reading x ≡ Some (object ms) → AreInOrder (names_of ms) }
+    ensures { (x : List ℕ) (ms : Members) →
+        reading x ≡ Some (object ms) → AreInOrder (names_of ms) }
 {}
 
 /// Of the keys that spell one outline the greatest by bytes stands, and each outline that some key spells is an entry's.

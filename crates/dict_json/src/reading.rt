@@ -30,8 +30,10 @@ fn read_value(alloc: Global, bytes: &[u8]) -> Result<Value, DictFault>
 /// The keys of an object's members, whose values are texts.
 fn walk(alloc: Global, map: Map<String, Value>) -> Result<Keys, DictFault>
     requires { All (λ m. length m.name < 2 ^ 32) (members_of (members_view map.entries)) }
-    ensures texts { IfOk result (λ keys. find (λ m. is_none (keyed m)) (members_of (members_view map.entries)) ≡ None) }
-    ensures keys { IfOk result (λ keys. keys ≡ walked (filter_map keyed (members_of (members_view map.entries)))) }
+    ensures texts { IfOk result
+        (λ keys. find (λ m. is_none (keyed m)) (members_of (members_view map.entries)) ≡ None) }
+    ensures keys { IfOk result (λ keys. keys ≡
+        walked (filter_map keyed (members_of (members_view map.entries)))) }
     ensures err { IfErr result (IsDictCause (object_outcome (Some (members_view map.entries)))) }
 {
     let mut keys = Keys::with_capacity(alloc, map.len())?;
@@ -51,7 +53,8 @@ fn read_object(alloc: Global, map: Map<String, Value>) -> Result<Dictionary, Dic
     requires few { length (members_of (members_view map.entries)) < 2 ^ 32 }
     requires short { All (λ m. length m.name < 2 ^ 32) (members_of (members_view map.entries)) }
     requires ordered { AreInOrder (names_of (members_view map.entries)) }
-    ensures ok { IfOk result (λ d. object_outcome (Some (members_view map.entries)) ≡ dictionary d) }
+    ensures ok { IfOk result (λ d. object_outcome (Some (members_view map.entries)) ≡
+        dictionary d) }
     ensures err { IfErr result (IsDictCause (object_outcome (Some (members_view map.entries)))) }
 {
     let Keys {

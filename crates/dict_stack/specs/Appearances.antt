@@ -6,13 +6,9 @@ use Rattle.std.specs.List.{concat, list_any}
 abbrev pub with_new : List ℕ → ℕ → List ℕ
 with_new found x = if list_any (λ y. x == y) found then found else found ++ x ∷ []
 
--- the different members of a list, in order of their first appearance
-abbrev pub first_appearances : List ℕ → List ℕ
-first_appearances xs = fold with_new [] xs
-
--- the different strokes of all outlines
+-- the different strokes of all outlines, in order of their first appearance
 abbrev pub strokes_of_all : List (List ℕ) → List ℕ
-strokes_of_all outlines = first_appearances (concat outlines)
+strokes_of_all outlines = fold with_new [] (concat outlines)
 
 -- the number of a stroke among these
 abbrev pub stroke_number_of : List ℕ → ℕ → Option ℕ

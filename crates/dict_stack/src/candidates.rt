@@ -37,10 +37,14 @@ impl Collected {
     fn add(&mut self, dictionary: Dictionary, is_word: bool) -> Result<(), AllocError>
         requires few { length self.old.skipped.items < most_dictionaries }
         requires few_keys { AreFew self.old }
-        ensures candidates { OnOk result (self.new.candidates.items ≡ self.old.candidates.items ++ map (candidate (length self.old.skipped.items) is_word) dictionary.entries) }
-        ensures skipped { OnOk result (map (λ keys. keys.items) self.new.skipped.items ≡ map (λ keys. keys.items) self.old.skipped.items ++ dictionary.skipped ∷ []) }
-        ensures skipped_total { OnOk result (self.new.skipped_total ≡ self.old.skipped_total + length dictionary.skipped) }
-        ensures folded_total { OnOk result (self.new.folded_total ≡ self.old.folded_total + dictionary.folded) }
+        ensures candidates { OnOk result (self.new.candidates.items ≡ self.old.candidates.items
+            ++ map (candidate (length self.old.skipped.items) is_word) dictionary.entries) }
+        ensures skipped { OnOk result (map (λ keys. keys.items) self.new.skipped.items ≡
+            map (λ keys. keys.items) self.old.skipped.items ++ dictionary.skipped ∷ []) }
+        ensures skipped_total { OnOk result (self.new.skipped_total ≡
+            self.old.skipped_total + length dictionary.skipped) }
+        ensures folded_total { OnOk result (self.new.folded_total ≡
+            self.old.folded_total + dictionary.folded) }
         ensures are_outlines { All IsOutline (entry_outlines dictionary.entries) }
         ensures few_more { dictionary.folded + length dictionary.skipped < 2 ^ 32 }
     {
@@ -92,7 +96,8 @@ fn add_entries(
     place: u8,
     is_word: bool,
 ) -> Result<(), AllocError>
-    ensures { OnOk result (candidates.new.items ≡ candidates.old.items ++ map (candidate place is_word) entries.items) }
+    ensures { OnOk result (candidates.new.items ≡
+        candidates.old.items ++ map (candidate place is_word) entries.items) }
 {
     for entry in entries {
         candidates.push(Candidate {

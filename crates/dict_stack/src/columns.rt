@@ -80,7 +80,8 @@ fn is_last(outlines: &[Outline], outline: &Outline) -> bool
 fn sort(candidates: &mut Vec<Candidate>) -> Result<(), AllocError>
     ensures permutation { IsPermutation candidates.old.items candidates.new.items }
     ensures sorted { OnOk result (AreSorted candidates.new.items) }
-    ensures stable { IsStableByKey candidate_outline outline_cmp candidates.old.items candidates.new.items }
+    ensures stable { IsStableByKey candidate_outline
+        outline_cmp candidates.old.items candidates.new.items }
 {
     candidates.sort_by(|a, b| a.entry.outline().cmp(b.entry.outline()))
 }
@@ -114,7 +115,8 @@ fn standing(alloc: Global, candidates: Vec<Candidate>, count: usize) -> Result<C
 /// What stands of the candidates, if it isn't more than a stack has.
 pub fn merge(alloc: Global, mut candidates: Vec<Candidate>) -> Result<Columns, StackFault>
     ensures merged { IfOk result (IsMerged candidates.items) }
-    ensures few { IfOk result (λ _. length (in_order (map candidate_outline candidates.items)) ≤ most_entries) }
+    ensures few { IfOk result (λ _. length (in_order (map candidate_outline candidates.items)) ≤
+        most_entries) }
     ensures err { IfErr result (IsStackCause (in_order (map candidate_outline candidates.items))) }
 {
     sort(&mut candidates)?;

@@ -121,7 +121,8 @@ impl<'a, G: StepGraph> DistTable<'a, G> {
         requires near { distance < DISTANCES }
         ensures call { IfSome result
             (λ found. MakesRelax pass.old target (moved distance source) found pass.new) }
-        ensures stands { IfSome result (λ found. Stands self.now.origin self.now.lists target found) }
+        ensures stands { IfSome result
+            (λ found. Stands self.now.origin self.now.lists target found) }
         ensures none { IfNone result (pass.new ≡ pass.old) }
     {
         if pass.distance != distance || pass.source != source {

@@ -4,7 +4,7 @@ use Rattle.std.specs.FinMap as map
 use Rattle.std.proofs.lemmas.Bool.{cases_eq}
 use Rattle.std.proofs.lemmas.List.{length-take-le, length-replicate, set-set, set-get_or, set_at, take_more, take_all, drop_more, drop-replicate, append_assoc}
 use Rattle.edge_pool.specs.Classes.{class_of, size_of}
-use Rattle.edge_pool.specs.Pools.{Extent, Pool, Lists, pairs_of, zeros, taken, written, given, grown, lengthened}
+use Rattle.edge_pool.specs.Pools.{Extent, Pool, ListsBlock, pairs_of, zeros, taken, written, given, grown, lengthened}
 use Rattle.edge_pool.proofs.MapLemmas.{same_number, other_number, get_inserted, get_beside_inserted, get_removed, get_beside_removed, maps_same, is_inserted, insert_twice}
 use Rattle.edge_pool.proofs.ListedLemmas.{pairs_there, listed_by}
 use Rattle.edge_pool.proofs.PoolLemmas.{same_pool}
@@ -79,23 +79,23 @@ front pool from to count = take count (pairs_of pool from) ++ drop count (pairs_
 abbrev pub copied : Pool → Extent → Extent → ℕ → Pool
 copied pool from to count = record pool { live = map.insert pool.live to.place (front pool from to count) }
 
-pub copied_none : (pool : Pool) (from to : Extent) → Lists pool to → pool ≡ copied pool from to 0
+pub copied_none : (pool : Pool) (from to : Extent) → ListsBlock pool to → pool ≡ copied pool from to 0
 copied_none pool from to h =
     same_pool pool.live _ pool.uncut pool.uncut pool.spare pool.spare (is_inserted pool.live pool.live to.place (pairs_of pool to) (pairs_there pool to h).pairs (λ q apart. refl)) refl refl
 
-module _ (pool : Pool) (from to : Extent) (count : ℕ) (has_from : Lists pool from) (has_to : Lists pool to) (apart : from.place ≢ to.place) (shorter : from.len ≤ to.len) (within : count ≤ from.len) where
+module _ (pool : Pool) (from to : Extent) (count : ℕ) (has_from : ListsBlock pool from) (has_to : ListsBlock pool to) (apart : from.place ≢ to.place) (shorter : from.len ≤ to.len) (within : count ≤ from.len) where
   front_long : length (front pool from to count) ≡ to.len
   front_long =
       length-append (take count (pairs_of pool from)) (drop count (pairs_of pool to))
       ∙ omega (arith, length-take-le count (pairs_of pool from) (omega (arith, (pairs_there pool from has_from).long)), length-drop count (pairs_of pool to), (pairs_there pool to has_to).long)
 
-  pub copied_to : Lists (copied pool from to count) to
+  pub copied_to : ListsBlock (copied pool from to count) to
   copied_to = listed_by (copied pool from to count) to (front pool from to count) (get_inserted pool.live to.place (front pool from to count)) front_long
 
   from_stays : map.get (copied pool from to count).live from.place ≡ map.get pool.live from.place
   from_stays = get_beside_inserted pool.live to.place (front pool from to count) from.place apart
 
-  pub copied_from : Lists (copied pool from to count) from
+  pub copied_from : ListsBlock (copied pool from to count) from
   copied_from = ap (option_map length) from_stays ∙ has_from
 
   -- one pair more
@@ -125,31 +125,31 @@ module _ (pool : Pool) (from to : Extent) (count : ℕ) (has_from : Lists pool f
 abbrev pub with_front : Pool → Extent → Extent → Pool
 with_front pool from to = record pool { live = map.insert pool.live to.place (pairs_of pool from ++ drop from.len (pairs_of pool to)) }
 
-pub copied_all : (pool : Pool) (from to : Extent) (count : ℕ) → Lists pool from → count ≡ from.len →
+pub copied_all : (pool : Pool) (from to : Extent) (count : ℕ) → ListsBlock pool from → count ≡ from.len →
     copied pool from to count ≡ with_front pool from to
 copied_all pool from to count h all =
     rw all (same_pool _ _ _ _ _ _ (ap (λ xs. map.insert pool.live to.place (xs ++ drop from.len (pairs_of pool to))) (take_all from.len (pairs_of pool from) (omega (arith, (pairs_there pool from h).long)))) refl refl)
 
 -- ---- growing into another block
 
-module _ (pool : Pool) (block longer : Extent) (len : ℕ) (listed : Lists pool block) (fresh : map.get pool.live longer.place ≡ None) (long : longer.len ≡ len) where
+module _ (pool : Pool) (block longer : Extent) (len : ℕ) (listed : ListsBlock pool block) (fresh : map.get pool.live longer.place ≡ None) (long : longer.len ≡ len) where
   pub grow_apart : block.place ≢ longer.place
   grow_apart same = absurd (true≢false (ap is_some (sym (pairs_there pool block listed).pairs ∙ ap (map.get pool.live) same ∙ fresh)))
 
   block_stays : map.get (taken pool len longer.place).live block.place ≡ map.get pool.live block.place
   block_stays = get_beside_inserted pool.live longer.place (zeros len) block.place grow_apart
 
-  pub grow_from : Lists (taken pool len longer.place) block
+  pub grow_from : ListsBlock (taken pool len longer.place) block
   grow_from = ap (option_map length) block_stays ∙ listed
 
-  pub grow_to : Lists (taken pool len longer.place) longer
+  pub grow_to : ListsBlock (taken pool len longer.place) longer
   grow_to = listed_by (taken pool len longer.place) longer (zeros len) (get_inserted pool.live longer.place (zeros len)) (length-replicate len (0, 0) ∙ sym long)
 
   -- the pool after the pairs were copied
   abbrev filled : Pool
   filled = with_front (taken pool len longer.place) block longer
 
-  pub grow_give : Lists filled block
+  pub grow_give : ListsBlock filled block
   grow_give = ap (option_map length) (get_beside_inserted (taken pool len longer.place).live longer.place _ block.place grow_apart) ∙ grow_from
 
   filled_pairs : pairs_of (taken pool len longer.place) block ++ drop block.len (pairs_of (taken pool len longer.place) longer) ≡ pairs_of pool block ++ zeros (len - block.len)

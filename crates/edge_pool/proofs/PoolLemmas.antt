@@ -4,7 +4,7 @@ use Rattle.std.specs.Ordering.{nat_cmp}
 use Rattle.std.specs.FinMap as map
 use Rattle.edge_pool.specs.Classes.{class_of, size_of, IsLen}
 use Rattle.edge_pool.specs.inside.Runs.{IsCleared}
-use Rattle.edge_pool.specs.Pools.{Extent, Pool, Lists, pairs_of, written, given, zeros, lengthened}
+use Rattle.edge_pool.specs.Pools.{Extent, Pool, ListsBlock, pairs_of, written, given, zeros, lengthened}
 use Rattle.edge_pool.specs.inside.Cuts.{block_at, contents, AreSound}
 use Rattle.edge_pool.specs.declared.cut.Cut.{Cut}
 use Rattle.edge_pool.proofs.ClassLemmas.{size_pos, class_known}
@@ -22,14 +22,14 @@ pub same_pool : (live live' : map.FinMap nat_cmp (List (ℕ × ℕ))) (uncut unc
 same_pool live live' uncut uncut' spare spare' e f g = λ i. record { live = e i; uncut = f i; spare = g i }
 
 module _ (cells : List (ℕ × ℕ)) (heads spare : List ℕ) (cut : ℕ) (cuts : List Cut) (s : AreSound cells heads spare cut cuts) (pool : Pool) (is : seen cells spare cut cuts ≡ pool) where
-  pub listed : (block : Extent) → Lists pool block → IsListed cells cut cuts block.place block.len
-  listed block h = listed_is cells heads spare cut cuts block.place block.len s (subst (λ v. Lists v block) (sym is) h)
+  pub listed : (block : Extent) → ListsBlock pool block → IsListed cells cut cuts block.place block.len
+  listed block h = listed_is cells heads spare cut cuts block.place block.len s (subst (λ v. ListsBlock v block) (sym is) h)
 
-  pub pairs_are : (block : Extent) → Lists pool block → pairs_of pool block ≡ run cells block.place block.len
+  pub pairs_are : (block : Extent) → ListsBlock pool block → pairs_of pool block ≡ run cells block.place block.len
   pairs_are block h = subst (λ v. pairs_of v block ≡ run cells block.place block.len) is (ap (λ o. unwrap_or o []) (listed block h).pairs)
 
   -- what a call reads is what callers see
-  pub shown_pairs : (block : Extent) → Lists pool block → (xs : List (ℕ × ℕ)) (place len : ℕ) → xs ≡ cells → place ≡ block.place → len ≡ block.len →
+  pub shown_pairs : (block : Extent) → ListsBlock pool block → (xs : List (ℕ × ℕ)) (place len : ℕ) → xs ≡ cells → place ≡ block.place → len ≡ block.len →
       map.get pool.live block.place ≡ Some (take (place + len - place) (drop place xs))
   shown_pairs block h xs place len same at long =
       rw (same, at, long) (subst (λ n. map.get pool.live block.place ≡ Some (take n (drop block.place cells))) (sum block.place block.len)
@@ -38,7 +38,7 @@ module _ (cells : List (ℕ × ℕ)) (heads spare : List ℕ) (cut : ℕ) (cuts 
       sum : (a b : ℕ) → b ≡ a + b - a
       sum a b = omega arith
 
-  pub write_seen : (block : Extent) (k : ℕ) (pair : ℕ × ℕ) → Lists pool block → k < block.len → seen (set cells (block.place + k) pair) spare cut cuts ≡ written pool block k pair
+  pub write_seen : (block : Extent) (k : ℕ) (pair : ℕ × ℕ) → ListsBlock pool block → k < block.len → seen (set cells (block.place + k) pair) spare cut cuts ≡ written pool block k pair
   write_seen block k pair h below =
       let l = listed block h in
       subst (λ v. seen (set cells (block.place + k) pair) spare cut cuts ≡ written v block k pair) is
@@ -60,14 +60,14 @@ module _ (cells : List (ℕ × ℕ)) (heads spare : List ℕ) (cut : ℕ) (cuts 
       ≡ record v { uncut = v.uncut - size_of class; spare = set v.spare class (get_or v.spare class 0 + 1) }) is
       (same_pool _ _ _ _ _ _ (cut_contents cells heads spare cut cuts class s known room) (omega (arith, length-set cells cut (get_or heads class 0, 0))) refl)
 
-  pub listed_at : (block : Extent) → Lists pool block → (class : ℕ) → class ≡ class_of block.len → block_at cuts block.place ≡ Some (class, block.len)
+  pub listed_at : (block : Extent) → ListsBlock pool block → (class : ℕ) → class ≡ class_of block.len → block_at cuts block.place ≡ Some (class, block.len)
   listed_at block h class classed = let l = listed block h in l.is ∙ ap (λ k. Some (k, block.len)) (sym (classed ∙ l.classed))
 
   -- the fields after `give`, whose history says this
   abbrev pub given_fields : ℕ → ℕ → List Cut → Pool
   given_fields place class cuts' = seen (set cells place (get_or heads class 0, 0)) (set spare class (get_or spare class 0 + 1)) cut cuts'
 
-  pub give_seen : (block : Extent) → Lists pool block → (place class : ℕ) → place ≡ block.place → class ≡ class_of block.len → (cuts' : List Cut) → cuts' ≡ told cuts place class 0 →
+  pub give_seen : (block : Extent) → ListsBlock pool block → (place class : ℕ) → place ≡ block.place → class ≡ class_of block.len → (cuts' : List Cut) → cuts' ≡ told cuts place class 0 →
       given_fields place class cuts' ≡ given pool block
   give_seen block h place class at classed cuts' is_told =
       subst (λ cs. given_fields place class cs ≡ given pool block) (sym is_told)
@@ -96,14 +96,14 @@ module _ (cells : List (ℕ × ℕ)) (heads spare : List ℕ) (cut : ℕ) (cuts 
       (take_contents cells new heads spare cut cuts class len (get_or spare class 0 - 1) s known (omega arith) live fits classed cleared)
       (ap (λ n. n - cut) cleared.length) refl)
 
-  pub widen_fits : (block : Extent) (longer : ℕ) → Lists pool block → IsLen longer → class_of longer ≡ class_of block.len → longer ≤ size_of (class_of longer)
+  pub widen_fits : (block : Extent) (longer : ℕ) → ListsBlock pool block → IsLen longer → class_of longer ≡ class_of block.len → longer ≤ size_of (class_of longer)
   widen_fits block longer h bound same = (class_known longer bound).1
 
-  pub widen_within : (block : Extent) (longer : ℕ) → Lists pool block → IsLen longer → class_of longer ≡ class_of block.len → block.place + longer ≤ length cells
+  pub widen_within : (block : Extent) (longer : ℕ) → ListsBlock pool block → IsLen longer → class_of longer ≡ class_of block.len → block.place + longer ≤ length cells
   widen_within block longer h bound same =
       omega (arith, (class_known longer bound).1, (s.blocks block.place (class_of longer) block.len (listed_at block h (class_of longer) same)).within, s.within)
 
-  pub widen_seen : (new : List (ℕ × ℕ)) (block : Extent) (longer : ℕ) → Lists pool block → block.len ≤ longer → IsLen longer → class_of longer ≡ class_of block.len →
+  pub widen_seen : (new : List (ℕ × ℕ)) (block : Extent) (longer : ℕ) → ListsBlock pool block → block.len ≤ longer → IsLen longer → class_of longer ≡ class_of block.len →
       IsCleared cells new (block.place + block.len) (block.place + longer) →
       seen new spare cut (told cuts block.place (class_of longer) longer) ≡ record pool { live = lengthened pool block longer block.place }
   widen_seen new block longer h le bound same cleared =

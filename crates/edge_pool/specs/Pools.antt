@@ -1,7 +1,7 @@
 -- A pool as its callers see it, and what each call makes of it.
 --     Extent                  a block as its callers see it: its place and its length
 --     Pool                    the live blocks by rising place, each with its pairs; the uncut cells; the free blocks of each class
---     Lists pool block        the block is one of the pool's live blocks
+--     ListsBlock pool block   the block is one of the pool's live blocks
 --     pairs_of pool block     its pairs
 --     AreApart live           no two live blocks have a cell in common
 --     spare_of pool len       the free blocks of the class of a length
@@ -28,8 +28,8 @@ pool_code =
     code_by (map.FinMap nat_cmp (List (ℕ × ℕ)) × (ℕ × List ℕ)) (coded× (map.code coded_ℕ (coded_list (coded× coded_ℕ coded_ℕ))) (coded× coded_ℕ (coded_list coded_ℕ)))
     (λ p. (p.live, (p.uncut, p.spare))) (λ t. record { live = t.0; uncut = t.1.0; spare = t.1.1 }) (λ _. refl)
 
-abbrev pub Lists : Pool → Extent → Type 0
-Lists pool block = option_map length (map.get pool.live block.place) ≡ Some block.len
+abbrev pub ListsBlock : Pool → Extent → Type 0
+ListsBlock pool block = option_map length (map.get pool.live block.place) ≡ Some block.len
 
 abbrev pub pairs_of : Pool → Extent → List (ℕ × ℕ)
 pairs_of pool block = unwrap_or (map.get pool.live block.place) []

@@ -2,7 +2,7 @@
 ghost use Rattle.std.specs.Prelude.{◌≡◌, ◌≢◌, ◌+◌, ◌-◌, ◌<◌, ◌≤◌, ◌↔◌, ◌++◌, ℕ, None, Some, length, drop, slice_get, slice_set, slice_index, IfOk, IfErr, IsErr, OnOk, OnErr};
 ghost use Rattle.std.specs.FinMap as map;
 ghost use Rattle.edge_pool.specs.Classes.{class_of, size_of, class_count, IsLen};
-ghost use Rattle.edge_pool.specs.Pools.{Extent, Lists, pairs_of, AreApart, spare_of, IsFull, needed, zeros, lengthened, most_cells, uncut_pool, reserved, taken, written, given, grown};
+ghost use Rattle.edge_pool.specs.Pools.{Extent, ListsBlock, pairs_of, AreApart, spare_of, IsFull, needed, zeros, lengthened, most_cells, uncut_pool, reserved, taken, written, given, grown};
 
 use crate::block::Block;
 use crate::cells::clear;
@@ -104,8 +104,9 @@ impl EdgePool {
         ensures len { IfOk result (λ block. block.len ≡ len) }
         ensures taken { IfOk result (λ block. self.new ≡ taken self.old len block.place) }
         ensures fresh { IfOk result (λ block. map.get self.old.live block.place ≡ None) }
-        ensures listed { IfOk result (λ block. Lists self.new block) }
-        ensures others { (other : Extent) → Lists self.old other → map.get self.new.live other.place ≡ map.get self.old.live other.place }
+        ensures listed { IfOk result (λ block. ListsBlock self.new block) }
+        ensures others { (other : Extent) → ListsBlock self.old other →
+            map.get self.new.live other.place ≡ map.get self.old.live other.place }
         ensures apart { OnOk result (AreApart self.new.live) }
         ensures full { IsErr result ↔ IsFull self.old len }
         ensures err { OnErr result (self.new ≡ self.old) }
@@ -122,17 +123,17 @@ impl EdgePool {
 
     /// Sets one pair of a block.
     pub fn write(&mut self, block: &Block, place: u32, pair: (u32, u32))
-        requires listed { Lists self.old block.now }
+        requires listed { ListsBlock self.old block.now }
         requires within { place < block.now.len }
         ensures written { self.new ≡ written self.old block.now place pair }
-        ensures listed { Lists self.new block.now }
+        ensures listed { ListsBlock self.new block.now }
     {
         self.cells[block.place() as usize + place as usize] = pair;
     }
 
     /// One pair of a block.
     pub fn read(&self, block: &Block, place: u32) -> (u32, u32)
-        requires listed { Lists self.now block.now }
+        requires listed { ListsBlock self.now block.now }
         requires within { place < block.now.len }
         ensures { slice_get (pairs_of self.now block.now) place ≡ Some result }
     {
@@ -141,7 +142,7 @@ impl EdgePool {
 
     /// All pairs of a block.
     pub fn cells(&self, block: &Block) -> &[(u32, u32)]
-        requires { Lists self.now block.now }
+        requires { ListsBlock self.now block.now }
         ensures pairs { map.get self.now.live block.now.place ≡ Some result.now }
         ensures len { length result.now ≡ block.now.len }
     {
@@ -151,7 +152,7 @@ impl EdgePool {
 
     /// Makes a block free.
     pub fn give(&mut self, block: Block)
-        requires { Lists self.old block }
+        requires { ListsBlock self.old block }
         ensures given { self.new ≡ given self.old block }
         ensures apart { AreApart self.new.live }
     {
@@ -172,13 +173,15 @@ impl EdgePool {
     /// Makes a block longer: its pairs, and then pairs (0, 0). Where the longer block has the same class it stays in its
     /// place, else it is copied, and the old one is free.
     pub fn grow(&mut self, block: Block, len: u32) -> Result<Block, (Block, PoolFault)>
-        requires listed { Lists self.old block }
+        requires listed { ListsBlock self.old block }
         requires longer { block.len ≤ len }
         requires bound { IsLen len }
         ensures len { IfOk result (λ longer. longer.len ≡ len) }
-        ensures listed { IfOk result (λ longer. Lists self.new longer) }
+        ensures listed { IfOk result (λ longer. ListsBlock self.new longer) }
         ensures grown { IfOk result (λ longer. self.new ≡ grown self.old block len longer.place) }
-        ensures place { IfOk result (λ longer. (class_of len ≡ class_of block.len → longer.place ≡ block.place) × (class_of len ≢ class_of block.len → map.get self.old.live longer.place ≡ None)) }
+        ensures place { IfOk result
+            (λ longer. (class_of len ≡ class_of block.len → longer.place ≡ block.place)
+            × (class_of len ≢ class_of block.len → map.get self.old.live longer.place ≡ None)) }
         ensures apart { OnOk result (AreApart self.new.live) }
         ensures full { IsErr result ↔ ((class_of len ≢ class_of block.len) × IsFull self.old len) }
         ensures back { IfErr result (λ refused. refused.0 ≡ block) }
@@ -203,7 +206,10 @@ impl EdgePool {
     fn cut_spare(&mut self, class: usize)
         requires known { class < class_count }
         requires room { size_of class ≤ self.old.uncut }
-        ensures { self.new ≡ record self.old { uncut = self.old.uncut - size_of class; spare = slice_set self.old.spare class (slice_index self.old.spare class + 1) } }
+        ensures { self.new ≡ record self.old {
+          uncut = self.old.uncut - size_of class;
+          spare = slice_set self.old.spare class (slice_index self.old.spare class + 1);
+        } }
     {
         let place = self.cut;
         self.cells[place as usize] = (self.heads[class], 0);
@@ -224,9 +230,13 @@ impl EdgePool {
         requires is { class ≡ class_of len }
         requires spare { 0 < slice_index self.old.spare class }
         ensures len { result.len ≡ len }
-        ensures taken { self.new ≡ record self.old { live = map.insert self.old.live result.place (zeros len); spare = slice_set self.old.spare class (slice_index self.old.spare class - 1) } }
+        ensures taken { self.new ≡
+            record self.old {
+              live = map.insert self.old.live result.place (zeros len);
+              spare = slice_set self.old.spare class (slice_index self.old.spare class - 1);
+            } }
         ensures fresh { map.get self.old.live result.place ≡ None }
-        ensures listed { Lists self.new result }
+        ensures listed { ListsBlock self.new result }
         ensures apart { AreApart self.new.live }
     {
         let place = self.heads[class];
@@ -243,13 +253,14 @@ impl EdgePool {
 
     /// Makes a block longer within its class.
     fn widen(&mut self, block: Block, len: u32) -> Block
-        requires listed { Lists self.old block }
+        requires listed { ListsBlock self.old block }
         requires longer { block.len ≤ len }
         requires bound { IsLen len }
         requires class { class_of len ≡ class_of block.len }
         ensures len { result ≡ record { place = block.place; len = len } }
-        ensures grown { self.new ≡ record self.old { live = lengthened self.old block len block.place } }
-        ensures listed { Lists self.new result }
+        ensures grown { self.new ≡
+            record self.old { live = lengthened self.old block len block.place } }
+        ensures listed { ListsBlock self.new result }
         ensures apart { AreApart self.new.live }
     {
         let place = block.place();
@@ -268,11 +279,14 @@ impl EdgePool {
 
     /// Copies the pairs of one block to the front of another.
     fn copy_front(&mut self, from: &Block, to: &Block)
-        requires from { Lists self.old from.now }
-        requires to { Lists self.old to.now }
+        requires from { ListsBlock self.old from.now }
+        requires to { ListsBlock self.old to.now }
         requires apart { from.now.place ≢ to.now.place }
         requires shorter { from.now.len ≤ to.now.len }
-        ensures { self.new ≡ record self.old { live = map.insert self.old.live to.now.place (pairs_of self.old from.now ++ drop from.now.len (pairs_of self.old to.now)) } }
+        ensures { self.new ≡ record self.old {
+          live = map.insert self.old.live to.now.place
+              (pairs_of self.old from.now ++ drop from.now.len (pairs_of self.old to.now));
+        } }
     {
         for place in 0..from.len() {
             let pair = self.read(from, place);

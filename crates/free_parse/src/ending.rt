@@ -13,8 +13,8 @@ impl FreeGraph<'_> {
         requires node { IsNode self.now.entries node }
         requires other { IsNode self.now.entries other }
         requires some { 0 < length (node_strokes self.now.entries other) }
-        ensures { result ≡ entry_number self.now.entries
-            (node_strokes self.now.entries node ++ final_stroke (node_strokes self.now.entries other)) }
+        ensures { let strokes = node_strokes self.now.entries in
+            result ≡ entry_number self.now.entries (strokes node ++ final_stroke (strokes other)) }
     {
         match self.child_by(node, other) {
             Some(child) => self.entry(child),
@@ -27,9 +27,9 @@ impl FreeGraph<'_> {
         requires child { IsNode self.now.entries child }
         requires shorter { IsNode self.now.entries shorter }
         requires some { 0 < length (node_strokes self.now.entries child) }
-        ensures { result ≡ (is_word self.now.words (node_strokes self.now.entries child)
-            && is_word self.now.words
-            (node_strokes self.now.entries shorter ++ final_stroke (node_strokes self.now.entries child))) }
+        ensures { let strokes = node_strokes self.now.entries in
+            result ≡ (is_word self.now.words (strokes child)
+            && is_word self.now.words (strokes shorter ++ final_stroke (strokes child))) }
     {
         match self.child_by(shorter, child) {
             Some(other) => self.is_word(child) && self.is_word(other),

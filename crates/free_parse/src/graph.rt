@@ -152,8 +152,9 @@ impl<'a> FreeGraph<'a> {
         requires node { IsNode self.now.entries node }
         requires other { IsNode self.now.entries other }
         requires some { 0 < length (node_strokes self.now.entries other) }
-        ensures child { result ≡ entry_number (nodes self.now.entries)
-            (node_strokes self.now.entries node ++ final_stroke (node_strokes self.now.entries other)) }
+        ensures child { let strokes = node_strokes self.now.entries in
+            result ≡ entry_number (nodes self.now.entries)
+            (strokes node ++ final_stroke (strokes other)) }
         ensures words { AreWords self.now.entries self.now.words }
     {
         match self.trie.last(other) {

@@ -32,8 +32,8 @@ impl NumberedHalves {
 
     /// The first reading, or the second, ends this word, if it is an entry.
     fn end_word(&mut self, is_first: bool, entry: Option<u32>) -> Result<(), AllocError>
-        ensures { (entries : List (List ℕ)) (h : Halves) (w : List ℕ) → entry ≡ entry_number entries w →
-            AreNumbersOf entries h self.old →
+        ensures { (entries : List (List ℕ)) (h : Halves) (w : List ℕ) →
+            entry ≡ entry_number entries w → AreNumbersOf entries h self.old →
             OnOk result (AreNumbersOf entries (end_word_of is_first w h) self.new) }
     {
         match entry {
@@ -86,8 +86,8 @@ impl NumberedHalves {
         requires from { IsNodesFork graph.now.entries from }
         requires to { IsNodesFork graph.now.entries to }
         ensures { (h : Halves) → AreNumbersOf graph.now.entries h self.old →
-            OnOk result (AreNumbersOf graph.now.entries
-            (halves_on (fork_by graph.now.entries from) (fork_by graph.now.entries to) h) self.new) }
+            OnOk result (AreNumbersOf graph.now.entries (halves_on (fork_by graph.now.entries from)
+            (fork_by graph.now.entries to) h) self.new) }
     {
         match to.shorter {
             None => Ok(()),
@@ -118,8 +118,8 @@ impl NumberedHalves {
         requires from { IfNodesFork graph.now.entries from }
         requires to { IfNodesFork graph.now.entries to }
         ensures { (h : Halves) → AreNumbersOf graph.now.entries h self.old →
-            OnOk result (AreNumbersOf graph.now.entries
-            (halves_on (fork_if graph.now.entries from) (fork_if graph.now.entries to) h) self.new) }
+            OnOk result (AreNumbersOf graph.now.entries (halves_on (fork_if graph.now.entries from)
+            (fork_if graph.now.entries to) h) self.new) }
     {
         match from {
             Some(from) => match to {

@@ -26,7 +26,11 @@ impl Model for Readings {
 impl Readings {
     /// These readings as they are.
     pub(crate) fn new(strokes: u32, first: Vec<u32>, second: Vec<u32>) -> Readings
-        ensures { result ≡ record { strokes = strokes; first = first.items; second = second.items } }
+        ensures { result ≡ record {
+          strokes = strokes;
+          first = first.items;
+          second = second.items;
+        } }
     {
         Readings {
             strokes,

@@ -60,7 +60,8 @@ impl Windows<'_> {
     /// The starts of a node's pieces: bit i is set exactly where a piece starts after i strokes. Linear in its strokes.
     pub fn cuts(&self, node: u32) -> u64
         requires { IsNode self.now node }
-        ensures { (i : ℕ) → IsBitSet result i ↔ StartsPiece self.now (node_strokes self.now node) i }
+        ensures { (i : ℕ) →
+            IsBitSet result i ↔ StartsPiece self.now (node_strokes self.now node) i }
     {
         let mut cuts = 0;
         let mut end = node;
@@ -74,7 +75,8 @@ impl Windows<'_> {
     /// The last piece of a node's strokes, None for the root alone.
     pub fn last_piece(&self, node: u32) -> Option<Piece>
         requires { IsNode self.now node }
-        ensures { result ≡ option_map (piece_of self.now) (last_piece_of self.now (node_strokes self.now node)) }
+        ensures { result ≡
+            option_map (piece_of self.now) (last_piece_of self.now (node_strokes self.now node)) }
     {
         if node == 0 {
             None
@@ -88,8 +90,10 @@ impl Windows<'_> {
     pub fn advance(&self, node: u32, stroke: Stroke) -> Advance
         requires { IsNode self.now node }
         ensures node { IsNode self.now result.node }
-        ensures window { node_strokes self.now result.node ≡ window self.now (node_strokes self.now node ++ stroke ∷ []) }
-        ensures last { Some result.last ≡ option_map (piece_of self.now) (last_piece_of self.now (node_strokes self.now node ++ stroke ∷ [])) }
+        ensures window { node_strokes self.now result.node ≡
+            window self.now (node_strokes self.now node ++ stroke ∷ []) }
+        ensures last { Some result.last ≡ option_map (piece_of self.now)
+            (last_piece_of self.now (node_strokes self.now node ++ stroke ∷ [])) }
     {
         let next = self.columns.next(self.trie, node, stroke);
         Advance {
@@ -103,7 +107,8 @@ impl Windows<'_> {
     pub fn shorter_end(&self, node: u32) -> u32
         requires { IsNode self.now node }
         ensures node { IsNode self.now result }
-        ensures end { node_strokes self.now result ≡ shorter_end_of self.now (node_strokes self.now node) }
+        ensures end { node_strokes self.now result ≡
+            shorter_end_of self.now (node_strokes self.now node) }
     {
         self.columns.shorter[node as usize]
     }
@@ -145,7 +150,8 @@ impl Windows<'_> {
 fn above(trie: &Trie, node: u32, levels: u32) -> u32
     requires { IsNode trie.now node }
     ensures node { IsNode trie.now result }
-    ensures strokes { node_strokes trie.now result ≡ take (length (node_strokes trie.now node) - levels) (node_strokes trie.now node) }
+    ensures strokes { node_strokes trie.now result ≡
+        take (length (node_strokes trie.now node) - levels) (node_strokes trie.now node) }
 {
     let mut end = node;
     for _ in 0..levels {

@@ -1,4 +1,4 @@
-mod OrderLemmas
+pub mod OrderLemmas
 mod GrowLemmas
 mod LengthLemmas
 mod TableLemmas

@@ -1,6 +1,6 @@
 -- What the look-ups along a path find.
-use Rattle.std.proofs.Common.{◌≡◌, ℕ, ◌+◌, ◌-◌, ◌<◌, ◌≤◌, List, [], ◌∷◌, ◌++◌, length, take, drop, get_or, refl, sym, ap, subst, ◌∙◌, arith, inl, inr, Option, Some, None, is_some, true, false, nat_le}
-use Rattle.std.proofs.lemmas.Bool.{cases_lt}
+use Rattle.std.proofs.Common.{◌≡◌, ℕ, ◌+◌, ◌-◌, ◌<◌, ◌≤◌, List, [], ◌∷◌, ◌++◌, length, take, drop, get_or, refl, sym, ap, subst, ◌∙◌, arith, inl, inr, Option, Some, None, is_some, false, nat_le}
+use Rattle.std.proofs.lemmas.Bool.{cases_lt, le-leb}
 use Rattle.std.proofs.lemmas.Bool.Decides.{nat_tests, same_from_decides}
 use Rattle.std.proofs.lemmas.Option.{none-some}
 use Rattle.std.proofs.lemmas.List.{get_or_default, get_or_read, take-append-drop, take_more, length_push, drop-append-le, drop_all, take_all, take_at}
@@ -82,15 +82,12 @@ last_is entries node parent stroke s = s.is ∙ ap (λ u. u ++ stroke ∷ []) (p
 
 -- ---- the last strokes of a node
 
-enough : (a b : ℕ) → a ≤ b → nat_le a b ≡ true
-enough a b h = grind (arith, nat_tests)
-
 too_many : (a b : ℕ) → b < a → nat_le a b ≡ false
 too_many a b h = grind (arith, nat_tests)
 
 pub suffix_none : (entries : List (List ℕ)) (node : ℕ) → suffix_of entries node 0 ≡ Some 0
 suffix_none entries node =
-    rw (enough 0 (length (node_strokes entries node)) (omega arith), drop_all (length (node_strokes entries node) - 0) (node_strokes entries node) (omega arith)) (root_number entries)
+    rw (le-leb 0 (length (node_strokes entries node)) (omega arith), drop_all (length (node_strokes entries node) - 0) (node_strokes entries node) (omega arith)) (root_number entries)
 
 pub suffix_of_root : (entries : List (List ℕ)) (node len : ℕ) → node ≡ 0 → 0 < len → suffix_of entries node len ≡ None
 suffix_of_root entries node len first some = rw (too_many len (length (node_strokes entries node)) (omega (arith, ap (λ n. length (node_strokes entries n)) first, ap length (root_is entries)))) refl
@@ -111,9 +108,9 @@ suffix_more entries node parent stroke len begun s some found = elim (cases_lt (
   | inl more ↦ absurd (none-some begun (sym (rw (too_many (len - 1) (length (node_strokes entries parent)) (omega (arith, long))) refl) ∙ found))
   | inr fits ↦
       let found' : entry_number (nodes entries) (drop (length (node_strokes entries parent) - (len - 1)) (node_strokes entries parent)) ≡ Some begun =
-      rw (enough (len - 1) (length (node_strokes entries parent)) (omega (arith, long))) at found in
+      rw (le-leb (len - 1) (length (node_strokes entries parent)) (omega (arith, long))) at found in
       let at = entry_number-Some (nodes entries) (drop (length (node_strokes entries parent) - (len - 1)) (node_strokes entries parent)) begun found' in
-      rw (enough len (length (node_strokes entries node)) fits) (ap (entry_number (nodes entries)) (ends (node_strokes entries parent) (node_strokes entries node) stroke len s.is some fits ∙ ap (λ u. u ++ stroke ∷ []) (sym at.1)))
+      rw (le-leb len (length (node_strokes entries node)) fits) (ap (entry_number (nodes entries)) (ends (node_strokes entries parent) (node_strokes entries node) stroke len s.is some fits ∙ ap (λ u. u ++ stroke ∷ []) (sym at.1)))
 ]
   where
     long : length (node_strokes entries node) ≡ length (node_strokes entries parent) + 1
@@ -124,8 +121,8 @@ suffix_lost entries node parent stroke len s some lost_above = elim (cases_lt (l
   | inl more ↦ rw (too_many len (length (node_strokes entries node)) more) refl
   | inr fits ↦
       let none : entry_number (nodes entries) (drop (length (node_strokes entries parent) - (len - 1)) (node_strokes entries parent)) ≡ None =
-      rw (enough (len - 1) (length (node_strokes entries parent)) (omega (arith, long))) at lost_above in
-      rw (enough len (length (node_strokes entries node)) fits) (ap (entry_number (nodes entries)) (ends (node_strokes entries parent) (node_strokes entries node) stroke len s.is some fits)
+      rw (le-leb (len - 1) (length (node_strokes entries parent)) (omega (arith, long))) at lost_above in
+      rw (le-leb len (length (node_strokes entries node)) fits) (ap (entry_number (nodes entries)) (ends (node_strokes entries parent) (node_strokes entries node) stroke len s.is some fits)
       ∙ front_none entries (drop (length (node_strokes entries parent) - (len - 1)) (node_strokes entries parent)) (stroke ∷ []) none)
 ]
   where

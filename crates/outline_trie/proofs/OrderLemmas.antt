@@ -15,12 +15,7 @@ use Rattle.steno_rules.proofs.NodeLemmas.{nodes-rising, nodes-Contains}
 use Rattle.steno_rules.proofs.Rising.{rising_same}
 use Rattle.steno_rules.proofs.Numbers.{not_below_self, below_trans}
 use Rattle.steno_rules.proofs.Lists.{in_one, in_first, pairs_push}
-
-told_same : (a b : ℕ) → nat_eq a b ≡ true → a ≡ b
-told_same a b h = grind (arith, nat_tests)
-
-same_number : (a b : ℕ) → a ≡ b → nat_eq a b ≡ true
-same_number a b h = grind (arith, nat_tests)
+use Rattle.edge_pool.proofs.MapLemmas.{told_same, same_number}
 
 one_more : (n : ℕ) → 1 + n ≡ suc n
 one_more n = omega arith

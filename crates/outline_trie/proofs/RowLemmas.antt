@@ -3,7 +3,7 @@ use Rattle.std.proofs.Common.{◌≡◌, ◌≢◌, ℕ, ◌<◌, List, [], ◌�
 use Rattle.std.specs.FinMap as map
 use Rattle.std.proofs.lemmas.Bool.{cases_lt, cases_eq}
 use Rattle.std.proofs.lemmas.List.{get_or_push, get_or_append_left, get_or-map, length_push, length-map, map_push, same_lists, get_or_default, get_or_read, length-replicate}
-use Rattle.edge_pool.specs.Pools.{Extent, Pool, Lists, pairs_of, zeros, taken, written}
+use Rattle.edge_pool.specs.Pools.{Extent, Pool, ListsBlock, pairs_of, zeros, taken, written}
 use Rattle.edge_pool.proofs.MapLemmas.{same_number, other_number, get_inserted, get_beside_inserted}
 use Rattle.edge_pool.proofs.ListedLemmas.{pairs_there, fresh_apart}
 use Rattle.outline_trie.specs.inside.Tables.{none_number}
@@ -62,7 +62,7 @@ none_more pool blocks indexes = map_push (row_at pool blocks) indexes none_numbe
 -- a node with a row that was taken
 module _ (old new : Pool) (blocks : List Extent) (indexes : List ℕ) (block : Extent) (len : ℕ) (r : AreRows old blocks indexes) (few : length indexes < 4194304)
     (is : new ≡ taken old len block.place) (long : block.len ≡ len) (fresh : map.get old.live block.place ≡ None)
-    (others : (other : Extent) → Lists old other → map.get new.live other.place ≡ map.get old.live other.place) where
+    (others : (other : Extent) → ListsBlock old other → map.get new.live other.place ≡ map.get old.live other.place) where
   abbrev blocks' : List Extent
   blocks' = blocks ++ block ∷ []
 
@@ -245,7 +245,7 @@ module _ (pool : Pool) (blocks : List Extent) (indexes : List ℕ) (node : ℕ) 
   block_is r h some index read block found =
       get_or_read blocks index block (index_below r h some index read) found no_block ∙ ap (λ n. get_or blocks n no_block) (get_or_read indexes node index (seen_inside h) read 0)
 
-  pub block_listed : AreRows pool blocks indexes → node < length now → get_or indexes node 0 ≢ none_number → Lists pool (get_or blocks (get_or indexes node 0) no_block)
+  pub block_listed : AreRows pool blocks indexes → node < length now → get_or indexes node 0 ≢ none_number → ListsBlock pool (get_or blocks (get_or indexes node 0) no_block)
   block_listed r h some = r.listed (get_or indexes node 0) (r.known node (seen_inside h) some)
 
   pub some_index : node < length now → (index : ℕ) → index ≡ get_or indexes node index → index ≢ none_number → get_or indexes node 0 ≢ none_number

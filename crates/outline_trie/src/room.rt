@@ -46,7 +46,8 @@ pub(crate) fn room_for(alloc: Global, counts: &[u32]) -> Result<Room, AllocError
 fn kinds_of(counts: &[u32]) -> [u32; CLASSES]
     requires few { length counts.now ≤ most_nodes }
     requires total { sum counts.now ≤ most_nodes }
-    ensures kinds { (class : ℕ) → class < class_count → get_or result class 0 ≡ rows_of_class counts.now class }
+    ensures kinds { (class : ℕ) →
+        class < class_count → get_or result class 0 ≡ rows_of_class counts.now class }
     ensures cells { weight result class_count ≤ 2 * sum counts.now }
 {
     let mut kinds = [0; CLASSES];
@@ -110,7 +111,8 @@ impl Room {
         ensures more { rows_at self.new.pool self.new.blocks.items self.new.indexes.items
             ≡ rows_at self.old.pool self.old.blocks.items self.old.indexes.items ++ zeros len ∷ [] }
         ensures spare { self.new.pool.spare ≡ spare_after self.old.pool len }
-        ensures blocks { length self.new.blocks.items ≡ length self.old.blocks.items + has_cells len }
+        ensures blocks { length self.new.blocks.items ≡
+            length self.old.blocks.items + has_cells len }
         ensures indexes { length self.new.indexes.items ≡ length self.old.indexes.items + 1 }
         ensures block_places { vec_capacity self.new.blocks ≡ vec_capacity self.old.blocks }
         ensures index_places { vec_capacity self.new.indexes ≡ vec_capacity self.old.indexes }

@@ -81,7 +81,8 @@ fn count_children(alloc: Global, parents: &[u32]) -> Result<Vec<u32>, AllocError
 fn zero_rows(mut room: Room, counts: &[u32]) -> Rows
     requires few { length counts.now ≤ most_nodes }
     requires total { sum counts.now ≤ most_nodes }
-    requires room { HasRoom counts.now room.pool (vec_capacity room.blocks) (vec_capacity room.indexes) }
+    requires room { HasRoom counts.now room.pool
+        (vec_capacity room.blocks) (vec_capacity room.indexes) }
     requires blocks { room.blocks.items ≡ [] }
     requires indexes { room.indexes.items ≡ [] }
     ensures { result ≡ map zeros counts.now }
@@ -108,8 +109,8 @@ impl Rows {
         requires empty { (node : ℕ) → node < length parents.now →
             get_or self.old node [] ≡ zeros (child_count parents.now node (length parents.now)) }
         ensures long { length self.new ≡ length parents.now }
-        ensures rows { (node : ℕ) → node < length parents.now →
-            get_or self.new node [] ≡ children_among parents.now strokes.now node (length parents.now) }
+        ensures rows { (node : ℕ) → node < length parents.now → get_or self.new node [] ≡
+            children_among parents.now strokes.now node (length parents.now) }
     {
         for child in 1..parents.len() {
             let parent = parents[child];
@@ -123,7 +124,8 @@ impl Rows {
     fn write(&mut self, node: u32, place: u32, pair: (u32, u32))
         requires node { node < length self.old }
         requires place { place < length (get_or self.old node []) }
-        ensures { self.new ≡ slice_set self.old node (slice_set (get_or self.old node []) place pair) }
+        ensures { self.new ≡
+            slice_set self.old node (slice_set (get_or self.old node []) place pair) }
     {
         let index = self.indexes[node as usize];
         let block = &self.blocks[index as usize];

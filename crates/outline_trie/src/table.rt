@@ -34,7 +34,8 @@ pub(crate) fn table_of(
     requires count { count ≡ length (nodes entries.now) }
     requires bound { count ≤ most_nodes }
     ensures table { IfOk result (λ t. IsTableOf entries.now t) }
-    ensures numbers { IfOk result (λ t. IsNumbered entries.now (nodes entries.now) t.numbers.items) }
+    ensures numbers { IfOk result
+        (λ t. IsNumbered entries.now (nodes entries.now) t.numbers.items) }
 {
     let mut table = root_table(alloc, count)?;
     for number in 0..entries.len() {
@@ -46,7 +47,8 @@ pub(crate) fn table_of(
 /// The columns of the root alone, with places for `count` nodes.
 fn root_table(alloc: Global, count: usize) -> Result<Table, AllocError>
     requires { 0 < count }
-    ensures table { IfOk result (λ t. IsTable ([] ∷ []) t.parents.items t.strokes.items t.depths.items) }
+    ensures table { IfOk result
+        (λ t. IsTable ([] ∷ []) t.parents.items t.strokes.items t.depths.items) }
     ensures numbers { IfOk result (λ t. t.numbers.items ≡ none_number ∷ []) }
     ensures places { IfOk result (λ t. HasPlacesFor count t) }
 {
@@ -86,10 +88,12 @@ impl Table {
         requires number { number < length entries.now }
         requires bound { length (nodes entries.now) ≤ most_nodes }
         requires table { IsTableOf (take number entries.now) self.old }
-        requires numbers { IsNumbered (take number entries.now) (nodes (take number entries.now)) self.old.numbers.items }
+        requires numbers { IsNumbered (take number entries.now)
+            (nodes (take number entries.now)) self.old.numbers.items }
         requires places { HasPlacesFor (length (nodes entries.now)) self.old }
         ensures table { IsTableOf (take (number + 1) entries.now) self.new }
-        ensures numbers { IsNumbered (take (number + 1) entries.now) (nodes (take (number + 1) entries.now)) self.new.numbers.items }
+        ensures numbers { IsNumbered (take (number + 1) entries.now)
+            (nodes (take (number + 1) entries.now)) self.new.numbers.items }
         ensures places { HasPlacesFor (length (nodes entries.now)) self.new }
     {
         let before = strokes_before(entries, number);
@@ -105,16 +109,21 @@ impl Table {
         requires entries { AreEntries entries.now }
         requires number { number < length entries.now }
         requires bound { length (nodes entries.now) ≤ most_nodes }
-        requires from { from ≡ shared (outline_before entries.now number) (outline_of entries.now number) }
+        requires from { from ≡
+            shared (outline_before entries.now number) (outline_of entries.now number) }
         requires inside { top < length (nodes (take number entries.now)) }
-        requires top { outline_of (nodes (take number entries.now)) top ≡ take from (outline_of entries.now number) }
+        requires top { outline_of (nodes (take number entries.now)) top ≡
+            take from (outline_of entries.now number) }
         requires table { IsTableOf (take number entries.now) self.old }
-        requires numbers { IsNumbered (take number entries.now) (nodes (take number entries.now)) self.old.numbers.items }
+        requires numbers { IsNumbered (take number entries.now)
+            (nodes (take number entries.now)) self.old.numbers.items }
         requires places { HasPlacesFor (length (nodes entries.now)) self.old }
         ensures table { IsTableOf (take (number + 1) entries.now) self.new }
-        ensures numbers { IsNumbered (take number entries.now) (nodes (take (number + 1) entries.now)) self.new.numbers.items }
+        ensures numbers { IsNumbered (take number entries.now)
+            (nodes (take (number + 1) entries.now)) self.new.numbers.items }
         ensures inside { result < length (nodes (take (number + 1) entries.now)) }
-        ensures node { outline_of (nodes (take (number + 1) entries.now)) result ≡ outline_of entries.now number }
+        ensures node { outline_of (nodes (take (number + 1) entries.now)) result ≡
+            outline_of entries.now number }
         ensures places { HasPlacesFor (length (nodes entries.now)) self.new }
     {
         let strokes = entries[number].strokes();

@@ -21,11 +21,15 @@ pub trait Files {
     fn open_file(&mut self, name: &str) -> Result<(), OutsideFault>
         ensures held { (view self.new).held ≡ (view self.old).held }
         ensures writing { (view self.new).writing ≡ (view self.old).writing }
-        ensures rest { (view self.new).rest ≡ option_map (λ files. if is_ok result then files name.now else []) (view self.old).held }
-        ensures opened { (view self.new).opened ≡ (if is_memory result then (view self.old).opened else Some name.now) }
-        ensures latest { (view self.new).latest ≡ (if is_failed result then Some (name.now, Way.Reading) else (view self.old).latest) }
+        ensures rest { (view self.new).rest ≡
+            option_map (λ files. if is_ok result then files name.now else []) (view self.old).held }
+        ensures opened { (view self.new).opened ≡
+            (if is_memory result then (view self.old).opened else Some name.now) }
+        ensures latest { (view self.new).latest ≡
+            (if is_failed result then Some (name.now, Way.Reading) else (view self.old).latest) }
         ensures later { (view self.old).faults ≤ (view self.new).faults }
-        ensures failed { IsTrue (is_failed result) → Rose (view self.old).faults (view self.new).faults }
+        ensures failed { IsTrue (is_failed result) →
+            Rose (view self.old).faults (view self.new).faults }
         ensures steady { Steady (is_failed result) (view self.old).faults (view self.new).faults };
 
     /// Moves the first bytes of the rest to the front of the slice, and answers how many: for a slice that isn't empty, 0
@@ -33,11 +37,16 @@ pub trait Files {
     fn take(&mut self, into: &mut [u8]) -> Result<usize, Failed>
         ensures leaves { LeavesAll (view self.old) (view self.new) }
         ensures bound { IfOk result (λ n. n ≤ length into.new) }
-        ensures moved { IfOk result (λ n. (view self.old).rest ≡ prepend_known (take n into.new) (view self.new).rest) }
-        ensures end { IfOk result (λ n. n ≡ 0 → 0 < length into.new → IfSome (view self.old).rest (λ rest. rest ≡ [])) }
+        ensures moved { IfOk result (λ n. (view self.old).rest ≡
+            prepend_known (take n into.new) (view self.new).rest) }
+        ensures end { IfOk result (λ n. n ≡ 0 → 0 < length into.new →
+            IfSome (view self.old).rest (λ rest. rest ≡ [])) }
         ensures refused { OnErr result ((view self.new).rest ≡ (view self.old).rest) }
         ensures has_name { OnErr result (IsSome (view self.old).opened) }
-        ensures latest { (view self.new).latest ≡ (if is_err result then option_map (λ name. (name, Way.Reading)) (view self.old).opened else (view self.old).latest) }
+        ensures latest { let before = view self.old in
+            let after = view self.new in
+            after.latest ≡ (if is_err result
+            then option_map (λ name. (name, Way.Reading)) before.opened else before.latest) }
         ensures later { (view self.old).faults ≤ (view self.new).faults }
         ensures failed { OnErr result (Rose (view self.old).faults (view self.new).faults) }
         ensures steady { Steady (is_err result) (view self.old).faults (view self.new).faults };
@@ -45,14 +54,17 @@ pub trait Files {
     /// Begins to write a file, which becomes empty. After a refusal all files are as they were and none is being written.
     /// The rest is empty afterwards in each case.
     fn begin(&mut self, name: &str) -> Result<(), OutsideFault>
-        ensures emptied { OnOk result (Both (Replaces name.now []) (view self.old).held (view self.new).held) }
+        ensures emptied { OnOk result
+            (Both (Replaces name.now []) (view self.old).held (view self.new).held) }
         ensures refused { OnErr result ((view self.new).held ≡ (view self.old).held) }
         ensures writing { (view self.new).writing ≡ (if is_ok result then Some name.now else None) }
         ensures opened { (view self.new).opened ≡ (view self.old).opened }
         ensures rest { (view self.new).rest ≡ option_map (λ _. []) (view self.old).held }
-        ensures latest { (view self.new).latest ≡ (if is_failed result then Some (name.now, Way.Writing) else (view self.old).latest) }
+        ensures latest { (view self.new).latest ≡
+            (if is_failed result then Some (name.now, Way.Writing) else (view self.old).latest) }
         ensures later { (view self.old).faults ≤ (view self.new).faults }
-        ensures failed { IsTrue (is_failed result) → Rose (view self.old).faults (view self.new).faults }
+        ensures failed { IsTrue (is_failed result) →
+            Rose (view self.old).faults (view self.new).faults }
         ensures steady { Steady (is_failed result) (view self.old).faults (view self.new).faults };
 
     /// Adds the first bytes of the piece to the file that is being written, and answers how many: at least 1. A refusal adds
@@ -62,13 +74,20 @@ pub trait Files {
         requires has_bytes { 0 < length piece.now }
         ensures taken { IfOk result (λ n. n ≤ length piece.now) }
         ensures some { IfOk result (λ n. 0 < n) }
-        ensures added { IfOk result (λ n. IfSome (view self.old).writing (λ name. Both (Extends name (take n piece.now)) (view self.old).held (view self.new).held)) }
+        ensures added { let before = view self.old in
+            let after = view self.new in
+            IfOk result (λ n. IfSome before.writing
+            (λ name. Both (Extends name (take n piece.now)) before.held after.held)) }
         ensures refused { OnErr result ((view self.new).held ≡ (view self.old).held) }
         ensures writing { (view self.new).writing ≡ (view self.old).writing }
         ensures opened { (view self.new).opened ≡ (view self.old).opened }
-        ensures latest { (view self.new).latest ≡ (if is_failed result then option_map (λ name. (name, Way.Writing)) (view self.old).writing else (view self.old).latest) }
+        ensures latest { let before = view self.old in
+            let after = view self.new in
+            after.latest ≡ (if is_failed result
+            then option_map (λ name. (name, Way.Writing)) before.writing else before.latest) }
         ensures later { (view self.old).faults ≤ (view self.new).faults }
-        ensures failed { IsTrue (is_failed result) → Rose (view self.old).faults (view self.new).faults }
+        ensures failed { IsTrue (is_failed result) →
+            Rose (view self.old).faults (view self.new).faults }
         ensures steady { Steady (is_failed result) (view self.old).faults (view self.new).faults };
 
     /// Ends the writing. Afterwards no file is being written, also after a refusal.
@@ -77,7 +96,10 @@ pub trait Files {
         ensures held { (view self.new).held ≡ (view self.old).held }
         ensures writing { (view self.new).writing ≡ None }
         ensures opened { (view self.new).opened ≡ (view self.old).opened }
-        ensures latest { (view self.new).latest ≡ (if is_err result then option_map (λ name. (name, Way.Writing)) (view self.old).writing else (view self.old).latest) }
+        ensures latest { let before = view self.old in
+            let after = view self.new in
+            after.latest ≡ (if is_err result
+            then option_map (λ name. (name, Way.Writing)) before.writing else before.latest) }
         ensures later { (view self.old).faults ≤ (view self.new).faults }
         ensures failed { OnErr result (Rose (view self.old).faults (view self.new).faults) }
         ensures steady { Steady (is_err result) (view self.old).faults (view self.new).faults };

@@ -87,7 +87,10 @@ impl Places {
     /// Counts a fault on reading the name last opened.
     pub(crate) fn note_reading(&mut self)
         ensures later { self.old.faults ≤ self.new.faults }
-        ensures noted { self.new ≡ record self.old { latest = option_map (λ name. (name, Way.Reading)) self.old.opened; faults = raised self.old.faults } }
+        ensures noted { self.new ≡ record self.old {
+          latest = option_map (λ name. (name, Way.Reading)) self.old.opened;
+          faults = raised self.old.faults;
+        } }
     {
         self.latest = self.opened.map(|name| Place {
             name,
@@ -99,7 +102,10 @@ impl Places {
     /// Counts a fault on writing the name that is being written.
     pub(crate) fn note_writing(&mut self)
         ensures later { self.old.faults ≤ self.new.faults }
-        ensures noted { self.new ≡ record self.old { latest = option_map (λ name. (name, Way.Writing)) self.old.writing; faults = raised self.old.faults } }
+        ensures noted { self.new ≡ record self.old {
+          latest = option_map (λ name. (name, Way.Writing)) self.old.writing;
+          faults = raised self.old.faults;
+        } }
     {
         self.latest = self.writing.map(|name| Place {
             name,

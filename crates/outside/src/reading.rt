@@ -29,15 +29,20 @@ pub fn read_all<F: Files>(
     limit: u64,
 ) -> Result<Vec<u8>, ReadFault>
     requires { limit < 2 ^ 62 }
-    ensures bytes { IfOk result (λ v. IfSome (F.view files.old).held (λ held. v.items ≡ held name.now)) }
+    ensures bytes { IfOk result
+        (λ v. IfSome (F.view files.old).held (λ held. v.items ≡ held name.now)) }
     ensures within { IfOk result (λ v. length v.items ≤ limit) }
-    ensures too_long { IsErrOf result ReadFault.TooLong → IfSome (F.view files.old).held (λ held. limit < length (held name.now)) }
+    ensures too_long { IsErrOf result ReadFault.TooLong →
+        IfSome (F.view files.old).held (λ held. limit < length (held name.now)) }
     ensures leaves { LeavesFiles (F.view files.old) (F.view files.new) }
     ensures opened { IsLastOpened name.now (F.view files.old) (F.view files.new) }
-    ensures latest { (F.view files.new).latest ≡ (if is_read_failed result then Some (name.now, Way.Reading) else (F.view files.old).latest) }
+    ensures latest { (F.view files.new).latest ≡ (if is_read_failed result
+        then Some (name.now, Way.Reading) else (F.view files.old).latest) }
     ensures later { (F.view files.old).faults ≤ (F.view files.new).faults }
-    ensures failed { IsErrOf result ReadFault.Failed → FaultAt name.now Way.Reading (F.view files.old) (F.view files.new) }
-    ensures steady { Steady (is_read_failed result) (F.view files.old).faults (F.view files.new).faults }
+    ensures failed { IsErrOf result ReadFault.Failed →
+        FaultAt name.now Way.Reading (F.view files.old) (F.view files.new) }
+    ensures steady { Steady (is_read_failed result)
+        (F.view files.old).faults (F.view files.new).faults }
 {
     let mut buffer = piece_buffer(alloc)?;
     files.open_file(name)?;

@@ -20,7 +20,8 @@ pub trait Sink {
         requires { 0 < length piece.now }
         ensures taken { IfOk result (λ n. n ≤ length piece.now) }
         ensures some { IfOk result (λ n. 0 < n) }
-        ensures appends { IfOk result (λ n. text self.new ≡ append_known (text self.old) (take n piece.now)) }
+        ensures appends { IfOk result (λ n. text self.new ≡
+            append_known (text self.old) (take n piece.now)) }
         ensures refused { OnErr result (text self.new ≡ text self.old) }
         ensures later { faults self.old ≤ faults self.new }
         ensures failed { IsTrue (is_failed result) → Rose (faults self.old) (faults self.new) }

@@ -24,13 +24,25 @@ pub fn write_all<S: Sink>(sink: &mut S, bytes: &[u8]) -> Result<(), OutsideFault
 /// told. `Failed` comes only with a fault on writing this file in this call.
 pub fn write_all_file<F: Files>(files: &mut F, bytes: &[u8]) -> Result<(), OutsideFault>
     requires { IsSome (F.view files.old).writing }
-    ensures all { OnOk result (IfSome (F.view files.old).writing (λ name. Both (Extends name bytes.now) (F.view files.old).held (F.view files.new).held)) }
-    ensures prefix { OnErr result (IfSome (F.view files.old).writing (λ name. ExtendsByPrefix name bytes.now (F.view files.old).held (F.view files.new).held)) }
+    ensures all { let before = F.view files.old in
+        let after = F.view files.new in
+        OnOk result
+        (IfSome before.writing (λ name. Both (Extends name bytes.now) before.held after.held)) }
+    ensures prefix { let before = F.view files.old in
+        let after = F.view files.new in
+        OnErr result (IfSome before.writing
+        (λ name. ExtendsByPrefix name bytes.now before.held after.held)) }
     ensures writing { (F.view files.new).writing ≡ (F.view files.old).writing }
     ensures opened { (F.view files.new).opened ≡ (F.view files.old).opened }
-    ensures latest { (F.view files.new).latest ≡ (if is_failed result then option_map (λ name. (name, Way.Writing)) (F.view files.old).writing else (F.view files.old).latest) }
+    ensures latest { let before = F.view files.old in
+        let after = F.view files.new in
+        after.latest ≡ (if is_failed result
+        then option_map (λ name. (name, Way.Writing)) before.writing else before.latest) }
     ensures later { (F.view files.old).faults ≤ (F.view files.new).faults }
-    ensures failed { IsTrue (is_failed result) → IfSome (F.view files.old).writing (λ name. FaultAt name Way.Writing (F.view files.old) (F.view files.new)) }
+    ensures failed { let before = F.view files.old in
+        let after = F.view files.new in
+        IsTrue (is_failed result) →
+        IfSome before.writing (λ name. FaultAt name Way.Writing before after) }
     ensures steady { Steady (is_failed result) (F.view files.old).faults (F.view files.new).faults }
 {
     let mut done = 0;

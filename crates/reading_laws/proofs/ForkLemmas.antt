@@ -3,7 +3,6 @@ use Rattle.std.proofs.Common.{◌≡◌, ℕ, zero, suc, ◌<◌, ◌≤◌, Lis
 use Rattle.std.specs.List.{concat}
 use Rattle.std.proofs.lemmas.Bool.Decides.{Decides-and}
 use Rattle.std.proofs.lemmas.List.{length_push}
-use Rattle.std.proofs.lemmas.List.Folds.{concat-append}
 use Rattle.std.proofs.lemmas.List.Elements.{Contains-append_cases, Contains-append_left, Contains-append_right}
 use Rattle.steno_rules.specs.Outlines.{is_word, AreWords}
 use Rattle.steno_rules.specs.States.{is_open}
@@ -11,9 +10,7 @@ use Rattle.reading_laws.specs.Readings.{AllWords, AreReadings, IsFree, IsLeastTw
 use Rattle.reading_laws.specs.Forks.{Fork, Same, Differ, End, targets_of_same, targets_of_two, fork_targets_by, ForkWalk, IsLeastEnd}
 use Rattle.steno_rules.proofs.Lists.{none_in_nil, in_one, in_first, in_if, in_if_true, unsnoc, All-snoc, All-unsnoc}
 use Rattle.steno_rules.proofs.Words.{word_not_empty, open_front, open_in_word}
-
-snoc : (ws : List (List ℕ)) (w : List ℕ) → concat (ws ++ w ∷ []) ≡ concat ws ++ w
-snoc ws w = concat-append ws (w ∷ []) ∙ ap (λ l. concat ws ++ l) (append-nil w)
+use Rattle.closure_laws.proofs.WordsOfWalks.{concat-snoc}
 
 module _ {X : Type 0} where
   snoc_some : (ys : List X) (b : X) → [] ≡ ys ++ b ∷ [] → ⊥
@@ -54,7 +51,7 @@ pub reads_ended : (words ws : List (List ℕ)) (p x : List ℕ) (c : ℕ) → Re
 reads_ended words ws p x c h word = record {
   all = All-snoc (λ w. is_word words w ≡ true) ws (p ++ c ∷ []) h.all word;
   open_word = refl;
-  joined = append-nil _ ∙ snoc ws (p ++ c ∷ []) ∙ sym (append_assoc (concat ws) p (c ∷ [])) ∙ ap (λ l. l ++ c ∷ []) h.joined;
+  joined = append-nil _ ∙ concat-snoc ws (p ++ c ∷ []) ∙ sym (append_assoc (concat ws) p (c ∷ [])) ∙ ap (λ l. l ++ c ∷ []) h.joined;
 }
 
 -- ---- from walks to readings
@@ -177,7 +174,7 @@ ended_before : (words vs : List (List ℕ)) (q x : List ℕ) (c d : ℕ) → Rea
 unfolding How
 ended_before words vs q x c d h =
     let parts = All-unsnoc (λ w. is_word words w ≡ true) vs (q ++ d ∷ []) h.all in
-    let all : (concat vs ++ q) ++ d ∷ [] ≡ x ++ c ∷ [] = append_assoc (concat vs) q (d ∷ []) ∙ sym (snoc vs (q ++ d ∷ [])) ∙ sym (append-nil _) ∙ h.joined in
+    let all : (concat vs ++ q) ++ d ∷ [] ≡ x ++ c ∷ [] = append_assoc (concat vs) q (d ∷ []) ∙ sym (concat-snoc vs (q ++ d ∷ [])) ∙ sym (append-nil _) ∙ h.joined in
     let same = snoc_same (concat vs ++ q) x d c all in
     record {
       vs = vs;

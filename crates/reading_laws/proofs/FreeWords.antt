@@ -1,15 +1,12 @@
 -- The law of Sardinas and Patterson: words are free exactly where no dangling suffix is a word.
 use Rattle.std.proofs.Common.{◌≡◌, ◌≢◌, ℕ, zero, suc, ◌+◌, ◌≤◌, List, [], ◌∷◌, ◌++◌, length, refl, sym, ap, ap₂, subst, ◌∙◌, arith, true, true≢false, inl, inr, append_assoc, append-nil, length-append, ◌↔◌}
 use Rattle.std.specs.List.{concat}
-use Rattle.std.proofs.lemmas.List.Folds.{concat-append}
 use Rattle.steno_rules.specs.Outlines.{is_word, AreWords}
 use Rattle.reading_laws.specs.Readings.{AllWords, AreReadings, IsFree}
 use Rattle.reading_laws.specs.DanglingSuffixes.{Dangling, DanglingWord}
 use Rattle.steno_rules.proofs.Lists.{two_cuts, All-snoc}
 use Rattle.steno_rules.proofs.Words.{word_not_empty}
-
-snoc : (ws : List (List ℕ)) (w : List ℕ) → concat (ws ++ w ∷ []) ≡ concat ws ++ w
-snoc ws w = concat-append ws (w ∷ []) ∙ ap (λ l. concat ws ++ l) (append-nil w)
+use Rattle.closure_laws.proofs.WordsOfWalks.{concat-snoc}
 
 -- ---- a dangling suffix hangs over
 
@@ -48,7 +45,7 @@ hangs_over words (suc n) s (some, inl h) =
       ys = rest.ys;
       first = (rest.first.0, All-snoc (λ w. is_word words w ≡ true) rest.xs h.0 rest.first.1 h.1);
       second = rest.second;
-      same = ap (λ l. l ++ s) (snoc (rest.a ∷ rest.xs) h.0) ∙ append_assoc (concat (rest.a ∷ rest.xs)) h.0 s ∙ rest.same;
+      same = ap (λ l. l ++ s) (concat-snoc (rest.a ∷ rest.xs) h.0) ∙ append_assoc (concat (rest.a ∷ rest.xs)) h.0 s ∙ rest.same;
       differ = rest.differ;
     }
 hangs_over words (suc n) s (some, inr h) =
@@ -60,7 +57,7 @@ hangs_over words (suc n) s (some, inr h) =
       ys = rest.xs ++ (h.0 ++ s) ∷ [];
       first = rest.second;
       second = (rest.first.0, All-snoc (λ w. is_word words w ≡ true) rest.xs (h.0 ++ s) rest.first.1 h.2);
-      same = ap (λ l. l ++ s) (sym rest.same) ∙ append_assoc (concat (rest.a ∷ rest.xs)) h.0 s ∙ sym (snoc (rest.a ∷ rest.xs) (h.0 ++ s));
+      same = ap (λ l. l ++ s) (sym rest.same) ∙ append_assoc (concat (rest.a ∷ rest.xs)) h.0 s ∙ sym (concat-snoc (rest.a ∷ rest.xs) (h.0 ++ s));
       differ = λ e. rest.differ (sym e);
     }
 
@@ -72,7 +69,7 @@ readings_of words h =
       record {
         first = (over.first.0, All-snoc (λ w. is_word words w ≡ true) over.xs h.s over.first.1 h.word);
         second = over.second;
-        same = snoc (over.a ∷ over.xs) h.s ∙ over.same;
+        same = concat-snoc (over.a ∷ over.xs) h.s ∙ over.same;
         differ = λ e. over.differ cc;
       },
     )

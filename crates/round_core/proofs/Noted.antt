@@ -9,7 +9,7 @@ use Rattle.graph_rules.specs.Graphs.{HasTarget, IsBest, IsSettledWord, Stands, m
 use Rattle.graph_rules.proofs.Distances.{same_or_not, source_below}
 use Rattle.graph_rules.proofs.RelaxedLemmas.{settled_stands}
 use Rattle.graph_rules.proofs.SettledLemmas.{best_once}
-use Rattle.round_core.specs.inside.InRounds.{IsWithin, IsOfRound, IsNoting}
+use Rattle.round_core.specs.inside.InRounds.{IsWithinRound, IsOfRound, IsNoting}
 use Rattle.round_core.specs.Machines.{lowered, noted_with}
 use Rattle.round_core.specs.Rounds.{Has, IsNear, IsFar, IsBetween, IsFrontier}
 use Rattle.round_core.proofs.Members.{has_none, has_left, has_last, has_snoc}
@@ -127,7 +127,7 @@ module _ (o : ℕ) (ls : List (List ℕ)) where
       of s below b (inr far) = absurd (far.beyond (suc k) (omega arith) b.walk)
 
   -- in a round each settled word stands
-  pub stands : (k : ℕ) (words : List ℕ) (todo : ℕ → ℕ → Type 0) → length ls ≤ 33554432 → IsWithin o ls k words todo → (s : ℕ) → s < length ls → Stands o ls s (get_or words s 0)
+  pub stands : (k : ℕ) (words : List ℕ) (todo : ℕ → ℕ → Type 0) → length ls ≤ 33554432 → IsWithinRound o ls k words todo → (s : ℕ) → s < length ls → Stands o ls s (get_or words s 0)
   stands k words todo few h s below = elim (h.each s below) [
     | inl near ↦ settled_stands o ls s (get_or words s 0) (omega (arith, few)) near.settled
     | inr (inl far) ↦ inl far.word

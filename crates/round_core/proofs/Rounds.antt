@@ -7,7 +7,7 @@ use Rattle.graph_rules.specs.Graphs.{HasTarget, Reaches, IsBest, IsSettledWord, 
 use Rattle.graph_rules.proofs.Distances.{same_or_not, source_below}
 use Rattle.graph_rules.proofs.SettledLemmas.{best_once}
 use Rattle.round_core.specs.Rounds.{IsBeyond, IsNear, IsFar, IsBetween}
-use Rattle.round_core.specs.inside.InRounds.{IsFound, IsWithin}
+use Rattle.round_core.specs.inside.InRounds.{IsFound, IsWithinRound}
 
 module _ (o : ℕ) (ls : List (List ℕ)) where
   -- at the start
@@ -36,7 +36,7 @@ module _ (o : ℕ) (ls : List (List ℕ)) where
       at_zero (suc j) s le walk = absurd (omega (arith, le))
 
   -- a round begins
-  pub open_round : (k : ℕ) (words : List ℕ) (todo : ℕ → ℕ → Type 0) → IsBetween o ls k words → ((p t : ℕ) → IsBest o ls p k → HasTarget ls p t → todo p t) → IsWithin o ls k words todo
+  pub open_round : (k : ℕ) (words : List ℕ) (todo : ℕ → ℕ → Type 0) → IsBetween o ls k words → ((p t : ℕ) → IsBest o ls p k → HasTarget ls p t → todo p t) → IsWithinRound o ls k words todo
   open_round k words todo h all = record {
     count = h.count;
     each = λ s below. elim (h.each s below) [ inl near ↦ inl near | inr far ↦ inr (inl far) ];
@@ -44,7 +44,7 @@ module _ (o : ℕ) (ls : List (List ℕ)) where
   }
 
   -- moves may be forgotten and repeated
-  pub weaken : (k : ℕ) (words : List ℕ) (todo left : ℕ → ℕ → Type 0) → IsWithin o ls k words todo → ((p t : ℕ) → HasTarget ls p t → todo p t → left p t) → IsWithin o ls k words left
+  pub weaken : (k : ℕ) (words : List ℕ) (todo left : ℕ → ℕ → Type 0) → IsWithinRound o ls k words todo → ((p t : ℕ) → HasTarget ls p t → todo p t → left p t) → IsWithinRound o ls k words left
   weaken k words todo left h more = record {
     count = h.count;
     each = h.each;
@@ -87,9 +87,9 @@ module _ (o : ℕ) (ls : List (List ℕ)) where
 
   -- one move is made
   pub relax : (k : ℕ) (words : List ℕ) (todo left : ℕ → ℕ → Type 0) (p t : ℕ)
-      → length ls ≤ 33554432 → k < 33554432 → t < length ls → IsWithin o ls k words todo → IsBest o ls p k → HasTarget ls p t
+      → length ls ≤ 33554432 → k < 33554432 → t < length ls → IsWithinRound o ls k words todo → IsBest o ls p k → HasTarget ls p t
       → ((q u : ℕ) → todo q u → left q u ⊎ ((q ≡ p) × (u ≡ t)))
-      → IsWithin o ls k (set words t (min (get_or words t 0) (moved k p))) left
+      → IsWithinRound o ls k (set words t (min (get_or words t 0) (moved k p))) left
   relax k words todo left p t few low within h best target rest = record {
     count = length-set words t (min (get_or words t 0) (moved k p)) ∙ h.count;
     each = λ s below. elim (same_or_not s t) [
@@ -129,7 +129,7 @@ module _ (o : ℕ) (ls : List (List ℕ)) where
   }
 
   -- no move is left
-  pub shut : (k : ℕ) (words : List ℕ) (todo : ℕ → ℕ → Type 0) → length ls ≤ 33554432 → k < 33554432 → IsWithin o ls k words todo → ((p t : ℕ) → todo p t → ⊥) → IsBetween o ls (suc k) words
+  pub shut : (k : ℕ) (words : List ℕ) (todo : ℕ → ℕ → Type 0) → length ls ≤ 33554432 → k < 33554432 → IsWithinRound o ls k words todo → ((p t : ℕ) → todo p t → ⊥) → IsBetween o ls (suc k) words
   shut k words todo few low h none = record {
     count = h.count;
     each = λ s below. elim (h.each s below) [

@@ -27,7 +27,9 @@ pub(crate) fn hand_at<G: StepGraph>(
     requires size { 0 < size }
     requires front { AreBelow (length (G.lists graph.now)) front.now }
     ensures owned { G.owns graph.now result.cursor }
-    ensures moves { hand_moves (G.left graph.now) (G.lists graph.now) front.now result ≡ moves_in (G.lists graph.now) (take size (drop at front.now)) }
+    ensures moves { let left = G.left graph.now in
+        let lists = G.lists graph.now in
+        hand_moves left lists front.now result ≡ moves_in lists (take size (drop at front.now)) }
 {
     let state = front[at];
     Hand {
@@ -43,7 +45,9 @@ fn advance<G: StepGraph>(graph: &G, front: &[u32], hand: &mut Hand<G::Cursor>) -
     requires owned { G.owns graph.now hand.old.cursor }
     requires front { AreBelow (length (G.lists graph.now)) front.now }
     ensures owned { G.owns graph.now hand.new.cursor }
-    ensures next { MatchOption result (hand_moves (G.left graph.now) (G.lists graph.now) front.now hand.old ≡ []) (λ t. hand_moves (G.left graph.now) (G.lists graph.now) front.now hand.old ≡ record { source = hand.new.state; target = t } ∷ hand_moves (G.left graph.now) (G.lists graph.now) front.now hand.new) }
+    ensures next { let moves = hand_moves (G.left graph.now) (G.lists graph.now) front.now in
+        MatchOption result (moves hand.old ≡ [])
+        (λ t. moves hand.old ≡ record { source = hand.new.state; target = t } ∷ moves hand.new) }
 {
     let mut next = graph.next(&mut hand.cursor);
     while next.is_none() && hand.more > 0 && hand.at < front.len() {
@@ -66,7 +70,9 @@ pub(crate) fn next_move<G: StepGraph>(
     requires owned { OwnsHand (G.owns graph.now) held.old }
     requires front { AreBelow (length (G.lists graph.now)) front.now }
     ensures owned { OwnsHand (G.owns graph.now) held.new }
-    ensures next { MatchOption result ((moves_held (hand_view (G.left graph.now) (G.lists graph.now) front.now held.old) ≡ []) × (held.new ≡ None)) (λ move. NextMove (hand_view (G.left graph.now) (G.lists graph.now) front.now held.old) (hand_view (G.left graph.now) (G.lists graph.now) front.now held.new) move.0 move.1) }
+    ensures next { let view = hand_view (G.left graph.now) (G.lists graph.now) front.now in
+        MatchOption result ((moves_held (view held.old) ≡ []) × (held.new ≡ None))
+        (λ move. NextMove (view held.old) (view held.new) move.0 move.1) }
 {
     let Some(mut hand) = held.take() else {
         return None;

@@ -56,9 +56,9 @@ pub fn round_law()
         IsGraph origin lists → (run lists (opening origin lists workers) events).begun ≡ false →
         (run lists (opening origin lists workers) events).front ≡ [] →
         AreSettled origin lists (run lists (opening origin lists workers) events).words }
-    ensures stand { (origin : ℕ) (lists : List (List ℕ)) (workers : ℕ) (events : List Event) (s : ℕ) →
-        IsGraph origin lists → s < length lists →
-        Stands origin lists s (slice_index (run lists (opening origin lists workers) events).words s) }
+    ensures stand { (origin : ℕ) (lists : List (List ℕ)) (workers : ℕ) (events : List Event)
+        (s : ℕ) → IsGraph origin lists → s < length lists → Stands origin lists s
+        (slice_index (run lists (opening origin lists workers) events).words s) }
 {}
 
 /// The limit on the numbers of a graph.

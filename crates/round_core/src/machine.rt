@@ -64,7 +64,11 @@ impl<'a, G: StepGraph> RoundState<'a, G> {
     /// memory for its numbers was refused.
     pub fn new(alloc: Global, graph: &'a G, workers: u32) -> Result<RoundState<'a, G>, AllocError>
         requires { (1 ≤ workers) × (workers ≤ 32) }
-        ensures { IfOk result (λ s. s ≡ record { origin = G.origin graph.now; lists = G.lists graph.now; now = opening (G.origin graph.now) (G.lists graph.now) workers }) }
+        ensures { IfOk result (λ s. s ≡ record {
+          origin = G.origin graph.now;
+          lists = G.lists graph.now;
+          now = opening (G.origin graph.now) (G.lists graph.now) workers;
+        }) }
     {
         let count = graph.count() as usize;
         let start = graph.start();

@@ -48,7 +48,8 @@ pub(crate) fn lower(words: &mut Vec<u64>, noted: &mut Vec<u32>, target: u32, wor
     requires below { target < length words.old.items }
     requires room { length noted.old.items < vec_capacity noted.old }
     ensures words { words.new.items ≡ lowered words.old.items target word }
-    ensures noted { noted.new.items ≡ noted_with noted.old.items target (slice_index words.old.items target) }
+    ensures noted { noted.new.items ≡
+        noted_with noted.old.items target (slice_index words.old.items target) }
     ensures room { vec_capacity noted.old ≤ vec_capacity noted.new }
 {
     let found = words[target as usize];

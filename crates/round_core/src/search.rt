@@ -47,9 +47,10 @@ fn relax_round<G: StepGraph>(
         words.old.items queue.old.items }
     requires few { (length (G.lists graph.now) ≤ most_numbers) × (distance < most_numbers)
         × (begin ≤ length queue.old.items) × (length queue.old.items ≤ most_numbers) }
-    ensures ready { IfOk result (λ _. IsReady (G.origin graph.now) (G.lists graph.now) (distance + 1)
-        (length queue.old.items) words.new.items queue.new.items) }
-    ensures longer { IfOk result (λ _. take (length queue.old.items) queue.new.items ≡ queue.old.items) }
+    ensures ready { IfOk result (λ _. IsReady (G.origin graph.now) (G.lists graph.now)
+        (distance + 1) (length queue.old.items) words.new.items queue.new.items) }
+    ensures longer { IfOk result (λ _. take (length queue.old.items) queue.new.items ≡
+        queue.old.items) }
     ensures moves { IfOk result (λ moves.
         moves_of (G.lists graph.now) (take begin queue.old.items) + moves
         ≡ moves_of (G.lists graph.now) queue.old.items) }

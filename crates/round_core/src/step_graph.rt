@@ -28,7 +28,8 @@ pub trait StepGraph {
         ensures count { result ≡ length (lists self.now) }
         ensures some { 0 < length (lists self.now) }
         ensures most { length (lists self.now) ≤ most_numbers }
-        ensures targets { (s t : ℕ) → HasTarget (lists self.now) s t → t < length (lists self.now) };
+        ensures targets { (s t : ℕ) →
+            HasTarget (lists self.now) s t → t < length (lists self.now) };
 
     /// The number from which walks start.
     fn start(&self) -> u32

@@ -20,9 +20,9 @@ use Rattle.settled_laws.specs.OpenNumbers.{IsOpenNumber, IsLeastOpen}
 use Rattle.settled_laws.specs.ChosenOpenHits.{ended_word}
 use Rattle.steno_rules.proofs.Lists.{two_cuts, All-snoc}
 use Rattle.steno_rules.proofs.Prefixes.{is_prefix-entry}
-use Rattle.steno_rules.proofs.SegmentLemmas.{concat-segments}
+use Rattle.steno_rules.proofs.SegmentLemmas.{concat-segments, last_piece-short}
 use Rattle.steno_rules.proofs.Words.{open_of_word, word_not_empty}
-use Rattle.translation_laws.proofs.LastPieces.{last_piece-short, last_piece-window, last_piece-in_window}
+use Rattle.translation_laws.proofs.LastPieces.{last_piece-window, last_piece-in_window}
 use Rattle.translation_laws.proofs.FrontLemmas.{piece-front, last_piece-at}
 use Rattle.translation_laws.proofs.StayLemmas.{stays-window}
 use Rattle.closure_laws.proofs.WordsOfWalks.{Reached-Walk, concat-snoc}

@@ -28,29 +28,35 @@ pub fn settled_pairs()
     ensures numbers { (entries words : List (List ℕ)) (table : List ℕ) (e place n : ℕ) →
         AreWords entries words → AreSettled 0 (kept_lists entries words) table →
         IsLeastSettled entries words e place n ↔ IsLeastOpen entries words e place n }
-    ensures conflicts { (entries words : List (List ℕ)) (e place n : ℕ) → IsLeast entries words e place n →
-        SettledPair entries words e place × ((k : ℕ) → IsLeastSettled entries words e place k → k ≤ n) }
+    ensures conflicts { (entries words : List (List ℕ)) (e place n : ℕ) →
+        IsLeast entries words e place n → SettledPair entries words e place
+        × ((k : ℕ) → IsLeastSettled entries words e place k → k ≤ n) }
 {}
 
 /// A pair has at most one chosen open hit, and its moves and the strokes that finish it are the pair's fewest strokes.
 pub fn chosen_open_hits()
     ensures once { (entries words : List (List ℕ)) (e place number n other k : ℕ) (z y : List ℕ) →
-        IsChosenOpen entries words e place number n z → IsChosenOpen entries words e place other k y →
+        IsChosenOpen entries words e place number n z →
+        IsChosenOpen entries words e place other k y →
         (number ≡ other) × (n ≡ k) × (length z ≡ length y) }
-    ensures least { (entries words : List (List ℕ)) (table : List ℕ) (e place number n : ℕ) (z : List ℕ) →
-        AreWords entries words → AreSettled 0 (kept_lists entries words) table →
-        IsChosenOpen entries words e place number n z → IsLeastSettled entries words e place (n + length z) }
+    ensures least { (entries words : List (List ℕ)) (table : List ℕ) (e place number n : ℕ)
+        (z : List ℕ) → AreWords entries words → AreSettled 0 (kept_lists entries words) table →
+        IsChosenOpen entries words e place number n z →
+        IsLeastSettled entries words e place (n + length z) }
 {}
 
 /// The walk to an open hit, back by the settled words, spells words that have the hit's pair, together with the word that is
 /// ended where one is open. Their strokes are the moves and those that finish: for the chosen open hit the fewest.
 pub fn finished_examples()
-    ensures words { (entries words : List (List ℕ)) (table : List ℕ) (e place number n : ℕ) (z : List ℕ) →
-        AreWords entries words → number_count entries < word_half → AreSettled 0 (kept_lists entries words) table →
-        (h : IsOpenNumber entries words e place number n z) → (ws : List ℕ) × AreWordNumbers entries words ws
+    ensures words { (entries words : List (List ℕ))
+        (table : List ℕ) (e place number n : ℕ) (z : List ℕ) → AreWords entries words →
+        number_count entries < word_half → AreSettled 0 (kept_lists entries words) table →
+        (h : IsOpenNumber entries words e place number n z) →
+        (ws : List ℕ) × AreWordNumbers entries words ws
         × (outlines_of entries ws ≡ finished_example entries words table n number h.state.v z) }
-    ensures stays { (entries words : List (List ℕ)) (table : List ℕ) (e place number n : ℕ) (z : List ℕ) →
-        AreWords entries words → number_count entries < word_half → AreSettled 0 (kept_lists entries words) table →
+    ensures stays { (entries words : List (List ℕ))
+        (table : List ℕ) (e place number n : ℕ) (z : List ℕ) → AreWords entries words →
+        number_count entries < word_half → AreSettled 0 (kept_lists entries words) table →
         (h : IsOpenNumber entries words e place number n z) → (ws : List ℕ) →
         outlines_of entries ws ≡ finished_example entries words table n number h.state.v z →
         Stays entries ws e place × (length (joined_strokes entries ws) ≡ n + length z) }

@@ -6,7 +6,6 @@ use Rattle.steno_rules.specs.Segments.{last_piece}
 use Rattle.steno_rules.specs.Windows.{is_prefix}
 use Rattle.steno_rules.specs.States.{State}
 use Rattle.translation_laws.proofs.FrontLemmas.{last_piece-at}
-use Rattle.translation_laws.proofs.LastPieces.{last_piece-short}
 use Rattle.translation_laws.proofs.PieceLemmas.{piece-some, pieces-are}
 use Rattle.translation_laws.proofs.WindowEnds.{window-whole}
 use Rattle.outline_trie.specs.Tries.{node_strokes}
@@ -15,6 +14,7 @@ use Rattle.match_window.proofs.RowLemmas.{node_some}
 use Rattle.closure_state.specs.declared.state.State as nodes
 use Rattle.closure_state.specs.NodeStates.{IsNodeState, state_at}
 use Rattle.settled_laws.specs.OpenHits.{CanFinish}
+use Rattle.steno_rules.proofs.SegmentLemmas.{last_piece-short}
 use Rattle.settled_pairs.specs.Finishes.{HasNoFinish, IsFinishOf}
 use Rattle.settled_pairs.specs.inside.Ways.{HasNoWay, IsNearestWay, IsWay, Passes}
 use Rattle.settled_pairs.proofs.KeepLemmas.{keeps_passes, passes_keeps}

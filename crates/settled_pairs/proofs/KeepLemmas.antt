@@ -6,10 +6,9 @@ use Rattle.std.proofs.lemmas.List.Folds.{concat-append}
 use Rattle.steno_rules.specs.Segments.{segments, last_piece}
 use Rattle.steno_rules.specs.Windows.{window}
 use Rattle.steno_rules.proofs.Lists.{two_cuts}
-use Rattle.steno_rules.proofs.SegmentLemmas.{concat-segments}
+use Rattle.steno_rules.proofs.SegmentLemmas.{concat-segments, last_or-short}
 use Rattle.translation_laws.specs.Pieces.{HasPiece}
 use Rattle.translation_laws.proofs.FrontLemmas.{last_or-snoc, piece-front}
-use Rattle.translation_laws.proofs.LastPieces.{last_or-short}
 use Rattle.translation_laws.proofs.Pushes.{pushes}
 use Rattle.translation_laws.proofs.WindowLemmas.{last_piece-push, window-push}
 use Rattle.settled_pairs.specs.inside.Ways.{IsLastWithin, Passes}

@@ -1,7 +1,6 @@
 -- From a number's part, lengths and mark to its state.
-use Rattle.std.proofs.Common.{◌≡◌, ℕ, ◌+◌, ◌-◌, ◌≤◌, max, List, [], length, take, drop, refl, sym, ap, subst, ◌∙◌, arith, true, false, true≢false, inl, inr, Option, Some, None, is_some, Contains, nat_le, take-append-drop}
+use Rattle.std.proofs.Common.{◌≡◌, ℕ, ◌+◌, ◌-◌, ◌≤◌, max, List, [], length, take, drop, refl, sym, ap, subst, ◌∙◌, arith, true, false, true≢false, inl, inr, Option, Some, None, is_some, Contains, take-append-drop}
 use Rattle.std.specs.Prelude.{MatchOption}
-use Rattle.std.proofs.lemmas.Bool.Decides.{nat_tests}
 use Rattle.std.proofs.lemmas.List.{length-drop, get_or_default}
 use Rattle.steno_rules.specs.Outlines.{AreWords, entry_number}
 use Rattle.steno_rules.specs.Nodes.{nodes}
@@ -19,6 +18,7 @@ use Rattle.outline_trie.specs.Tries.{IsNode, node_strokes, suffix_of}
 use Rattle.outline_trie.proofs.LookLemmas.{node_test, number_there}
 use Rattle.closure_state.specs.declared.state.State.{State}
 use Rattle.closure_state.specs.NodeStates.{state_at}
+use Rattle.std.proofs.lemmas.Bool.{le-leb}
 use Rattle.state_numbering.specs.declared.part.Part.{Part}
 use Rattle.state_numbering.specs.declared.offset.Lengths.{Lengths}
 use Rattle.state_numbering.specs.inside.Offsets.{HasOffset, IsMarked}
@@ -33,14 +33,10 @@ use Rattle.state_numbering.proofs.NumberLemmas.{number_at}
 abbrev pub end_of : List ℕ → ℕ → List ℕ
 end_of z len = drop (length z - len) z
 
--- the test of a suffix
-test_le : (a b : ℕ) → a ≤ b → nat_le a b ≡ true
-test_le a b h = grind (arith, nat_tests)
-
 -- the node of a node's last strokes
 suffix_at : (entries : List (List ℕ)) (node len : ℕ) → len ≤ length (node_strokes entries node) →
     suffix_of entries node len ≡ entry_number (nodes entries) (end_of (node_strokes entries node) len)
-suffix_at entries node len short = rw (test_le len (length (node_strokes entries node)) short) refl
+suffix_at entries node len short = rw (le-leb len (length (node_strokes entries node)) short) refl
 
 -- The last strokes of a node that are all of them are the node.
 pub suffix_whole : (entries : List (List ℕ)) (node len : ℕ) → IsNode entries node → len ≡ length (node_strokes entries node) →

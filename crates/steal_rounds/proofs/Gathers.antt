@@ -5,9 +5,10 @@ use mathlib.Core.List.{IsPrefix}
 use Rattle.dist_table.specs.declared.call.Call.{Call}
 use Rattle.dist_table.specs.Tables.{TableView, PassView, IsJoined}
 use Rattle.dist_table.specs.Histories.{IsLegal}
+use Rattle.round_core.proofs.Places.{get_front, get_last}
 use Rattle.steal_rounds.specs.declared.member.CrewMember.{CrewMember}
-use Rattle.steal_rounds.specs.inside.Moves.{Goes}
-use Rattle.steal_rounds.proofs.Spreads.{prefix_trans, get_front, get_last}
+use Rattle.steal_rounds.specs.inside.Moves.{IsLaterPass}
+use Rattle.steal_rounds.proofs.Spreads.{prefix_trans}
 
 abbrev pub Gathered : List CrewMember → List CrewMember → List Call → Type 0
 Gathered all rest seen = (done : List CrewMember) × (rest ++ done ≡ all) × ((j : ℕ) (m : CrewMember) → slice_get done j ≡ Some m → IsPrefix m.pass.seen seen)
@@ -30,5 +31,5 @@ pub gathered_all : (all rest : List CrewMember) (seen : List Call) → rest ≡ 
 gathered_all all rest seen e h j m at = h.2 j m (subst (λ l. slice_get l j ≡ Some m) (sym h.1 ∙ ap (λ l. l ++ h.0) e) at)
 
 -- a pass after a join with another of its table
-pub joins_goes : (t : TableView) (p o q : PassView) → p.table ≡ t → IsJoined p o q → Goes t p q
+pub joins_goes : (t : TableView) (p o q : PassView) → p.table ≡ t → IsJoined p o q → IsLaterPass t p q
 joins_goes t p o q h j = (j.same.0 ∙ h, j.same, j.former, subst (λ (x : TableView). IsLegal x.origin x.lists q.seen) h j.legal)

@@ -8,9 +8,9 @@ use Rattle.round_core.specs.Rounds.{Has}
 use Rattle.round_core.proofs.Members.{has_left, has_last}
 use Rattle.dist_table.specs.Tables.{TableView, PassView}
 use Rattle.steal_batches.specs.Deques.{DequeView, ThiefView}
+use Rattle.round_core.proofs.Places.{get_snoc}
 use Rattle.steal_rounds.specs.declared.member.CrewMember.{CrewMember}
 use Rattle.steal_rounds.specs.inside.Records.{Aims, Holds, AreHeld, IsBlank, AreBlank, AreOffered, AreIdle, HaveRoom}
-use Rattle.steal_rounds.proofs.Spreads.{get_snoc}
 use Rattle.steal_rounds.proofs.Lists.{set_get, get_set, get_set_other, get_there, get_below, one_there, sum_set}
 
 -- ---- offers

@@ -4,16 +4,16 @@ use Rattle.std.specs.Prelude.{slice_get, sum_by}
 use Rattle.std.proofs.lemmas.Bool.{cases_lt}
 use Rattle.std.proofs.lemmas.List.Sums.{sum_by-append, sum_by-cons}
 use Rattle.steal_batches.specs.Deques.{DequeView, ThiefView}
+use Rattle.round_core.proofs.Places.{get_front, get_last}
 use Rattle.steal_rounds.specs.declared.member.CrewMember.{CrewMember}
 use Rattle.steal_rounds.specs.inside.Crews.{Took, Stole, taken_by, stolen_by}
-use Rattle.steal_rounds.specs.inside.Records.{Holds, AreHeld, Keeps, AreReturned, AreBack}
-use Rattle.steal_rounds.proofs.Spreads.{get_front, get_last}
+use Rattle.steal_rounds.specs.inside.Records.{Holds, AreHeld, KeepsRecord, AreReturned, AreBack}
 use Rattle.steal_rounds.proofs.Lists.{set_get, get_set_other, get_below, one_there, sum_set}
 
-pub keeps_self : (m : CrewMember) → Keeps m m
+pub keeps_self : (m : CrewMember) → KeepsRecord m m
 keeps_self m = record { worker = refl; pass = refl; notes = refl; moves = refl; short = refl; offered = refl }
 
-pub keeps_on : (m n o : CrewMember) → Keeps m n → Keeps n o → Keeps m o
+pub keeps_on : (m n o : CrewMember) → KeepsRecord m n → KeepsRecord n o → KeepsRecord m o
 keeps_on m n o p q = record { worker = q.worker ∙ p.worker; pass = q.pass ∙ p.pass; notes = q.notes ∙ p.notes; moves = q.moves ∙ p.moves; short = q.short ∙ p.short; offered = q.offered ∙ p.offered }
 
 pub returned_self : (xs : List CrewMember) → AreReturned xs xs
@@ -97,9 +97,9 @@ module _ (xs : List CrewMember) (v w : ℕ) (m d : CrewMember) (ts : Vec ThiefVi
   step_returns = record {
     count = count_after;
     each = λ a n e. ⊎_elim
-        (λ (h : (a ≡ v) × (took_in d th ≡ n)). (d, subst (λ c. slice_get xs c ≡ Some d) (sym h.0) there, subst (Keeps d) h.1 (record { worker = refl; pass = refl; notes = refl; moves = refl; short = refl; offered = refl })))
+        (λ (h : (a ≡ v) × (took_in d th ≡ n)). (d, subst (λ c. slice_get xs c ≡ Some d) (sym h.0) there, subst (KeepsRecord d) h.1 (record { worker = refl; pass = refl; notes = refl; moves = refl; short = refl; offered = refl })))
         (λ r. ⊎_elim
-        (λ (h : (a ≡ w) × (popped m ts ≡ n)). (m, subst (λ c. slice_get xs c ≡ Some m) (sym h.0) at, subst (Keeps m) h.1 (record { worker = refl; pass = refl; notes = refl; moves = refl; short = refl; offered = refl })))
+        (λ (h : (a ≡ w) × (popped m ts ≡ n)). (m, subst (λ c. slice_get xs c ≡ Some m) (sym h.0) at, subst (KeepsRecord m) h.1 (record { worker = refl; pass = refl; notes = refl; moves = refl; short = refl; offered = refl })))
         (λ (h : (a ≢ v) × (a ≢ w) × (slice_get xs a ≡ Some n)). (n, h.2, keeps_self n))
         r)
         (cases a n e);

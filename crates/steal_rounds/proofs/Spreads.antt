@@ -1,5 +1,5 @@
 -- Moves that stand in histories that grow.
-use Rattle.std.proofs.Common.{◌≡◌, ℕ, zero, suc, ◌+◌, ◌*◌, ◌<◌, ◌≤◌, ◌⊎◌, true, List, [], ◌∷◌, ◌++◌, length, Some, refl, ap, sym, subst, ◌∙◌, ⊎_elim, inl, inr, arith, append_assoc, length-append}
+use Rattle.std.proofs.Common.{◌≡◌, ℕ, ◌+◌, ◌*◌, ◌<◌, ◌≤◌, ◌⊎◌, true, List, [], ◌∷◌, ◌++◌, length, Some, refl, ap, sym, subst, ◌∙◌, ⊎_elim, inl, inr, arith, append_assoc, length-append}
 use Rattle.std.specs.Prelude.{slice_get}
 use Rattle.std.proofs.lemmas.List.{append-nil}
 use mathlib.Core.List.{IsPrefix}
@@ -11,10 +11,11 @@ use Rattle.dist_table.specs.Tables.{TableView, PassView, MakesRelax}
 use Rattle.dist_table.specs.Histories.{IsLegal}
 use Rattle.steal_rounds.specs.inside.Fronts.{IsWorked}
 use Rattle.steal_rounds.specs.inside.Moves.{IsLegalPass}
-use Rattle.steal_rounds.specs.inside.Moves.{Relaxed, Spread, Worked, Goes, FoundBy, Found, AddsFound}
+use Rattle.steal_rounds.specs.inside.Moves.{Relaxed, Spread, Worked, IsLaterPass, FoundBy, Found, AddsFound}
 use Rattle.round_core.specs.inside.InRounds.{moves_of}
 use Rattle.std.specs.Prelude.{sum_by}
 use Rattle.std.proofs.lemmas.List.Sums.{sum_by-append, sum_by-cons}
+use Rattle.round_core.proofs.Places.{get_front, get_last, get_snoc}
 
 pub prefix_self : {A : Type 0} (xs : List A) → IsPrefix xs xs
 prefix_self xs = ([], append-nil xs)
@@ -22,23 +23,8 @@ prefix_self xs = ([], append-nil xs)
 pub prefix_trans : {A : Type 0} (xs ys zs : List A) → IsPrefix xs ys → IsPrefix ys zs → IsPrefix xs zs
 prefix_trans xs ys zs p q = (p.0 ++ q.0, sym (append_assoc xs p.0 q.0) ∙ (ap (λ w. w ++ q.0) p.1 ∙ q.1))
 
-pub get_front : {A : Type 0} (xs ys : List A) (i : ℕ) (x : A) → slice_get xs i ≡ Some x → slice_get (xs ++ ys) i ≡ Some x
-get_front [] ys i x e = absurd (cc e)
-get_front (z ∷ xs) ys zero x e = e
-get_front (z ∷ xs) ys (suc i) x e = get_front xs ys i x e
-
 pub prefix_get : {A : Type 0} (xs ys : List A) (i : ℕ) (x : A) → IsPrefix xs ys → slice_get xs i ≡ Some x → slice_get ys i ≡ Some x
 prefix_get xs ys i x p e = subst (λ l. slice_get l i ≡ Some x) p.1 (get_front xs p.0 i x e)
-
-pub get_last : {A : Type 0} (xs : List A) (x : A) (ys : List A) → slice_get (xs ++ x ∷ ys) (length xs) ≡ Some x
-get_last [] x ys = refl
-get_last (z ∷ xs) x ys = get_last xs x ys
-
-pub get_snoc : {A : Type 0} (xs : List A) (x y : A) (i : ℕ) → slice_get (xs ++ x ∷ []) i ≡ Some y → (slice_get xs i ≡ Some y) ⊎ (x ≡ y)
-get_snoc [] x y zero e = inr (cc e)
-get_snoc [] x y (suc i) e = absurd (cc e)
-get_snoc (z ∷ xs) x y zero e = inl e
-get_snoc (z ∷ xs) x y (suc i) e = get_snoc xs x y i e
 
 pub prefix_length : {A : Type 0} (xs ys : List A) → IsPrefix xs ys → length xs ≤ length ys
 prefix_length xs ys p = let e = ap length (sym p.1) in let l = length-append xs p.0 in omega (arith, e, l)
@@ -87,13 +73,13 @@ adds_on t k states a b c xs ys zs p q f g u h =
     (λ (new : Found t k states b c u). inr (found_more t k states a b c c u p (prefix_self c) new))
     (g u h)
 
-pub goes_self : (t : TableView) (p : PassView) → IsLegalPass t p → Goes t p p
+pub goes_self : (t : TableView) (p : PassView) → IsLegalPass t p → IsLaterPass t p p
 goes_self t p h = (h.0, (refl, refl), prefix_self p.seen, h.1)
 
-pub goes_on : (t : TableView) (p q r : PassView) → Goes t p q → Goes t q r → Goes t p r
+pub goes_on : (t : TableView) (p q r : PassView) → IsLaterPass t p q → IsLaterPass t q r → IsLaterPass t p r
 goes_on t p q r a b = (b.0, (b.1.0 ∙ a.1.0, b.1.1 ∙ a.1.1), prefix_trans p.seen q.seen r.seen a.2 b.2, b.3)
 
-pub makes_goes : (t : TableView) (p q : PassView) (state value reply : ℕ) → p.table ≡ t → MakesRelax p state value reply q → Goes t p q
+pub makes_goes : (t : TableView) (p q : PassView) (state value reply : ℕ) → p.table ≡ t → MakesRelax p state value reply q → IsLaterPass t p q
 makes_goes t p q state value reply h m =
     let c = call p.number true state value reply in
     (m.0.0 ∙ h, m.0, (m.1.between ++ c ∷ [], sym (append_assoc p.seen m.1.between (c ∷ [])) ∙ sym m.1.ends), subst (λ (x : TableView). IsLegal x.origin x.lists q.seen) h m.1.legal)
@@ -140,7 +126,7 @@ all_at t k s all left seen notes e h = passed_all t k s all seen notes (passing_
 
 -- what is kept while the moves of s are made
 pub record Spreading (t : TableView) (k s : ℕ) (p q : PassView) (first notes all left : List ℕ) (moves : ℕ) : Type 0 where
-  pub goes : Goes t p q
+  pub goes : IsLaterPass t p q
   pub notes_on : IsPrefix first notes
   pub passing : Passing t k s all left q.seen notes
   pub adds : (u : ℕ) → Has notes u → Has first u ⊎ FoundBy t k p.seen q.seen s u
@@ -178,7 +164,7 @@ begins t k s p notes all h = record { goes = goes_self t p h; notes_on = prefix_
 
 -- what is kept while states of a batch are worked
 pub record Working (t : TableView) (k : ℕ) (states done : List ℕ) (p q : PassView) (first notes : List ℕ) (moves : ℕ) : Type 0 where
-  pub goes : Goes t p q
+  pub goes : IsLaterPass t p q
   pub notes_on : IsPrefix first notes
   pub made : Worked t k q.seen notes done
   pub adds : AddsFound t k states p.seen q.seen first notes
@@ -190,7 +176,7 @@ works_none t k states p notes h = record { goes = goes_self t p h; notes_on = pr
 
 -- a state more of a batch
 pub works_next : (t : TableView) (k : ℕ) (states done : List ℕ) (p q r : PassView) (first notes more : List ℕ) (moves s n : ℕ)
-    → Working t k states done p q first notes moves → Has states s → Goes t q r → IsPrefix notes more → ((u : ℕ) → Has more u → Has notes u ⊎ FoundBy t k q.seen r.seen s u)
+    → Working t k states done p q first notes moves → Has states s → IsLaterPass t q r → IsPrefix notes more → ((u : ℕ) → Has more u → Has notes u ⊎ FoundBy t k q.seen r.seen s u)
     → Spread t k r.seen more s → n ≡ length (row t.lists s) → n < 4294967296 → Working t k states (done ++ s ∷ []) p r first more (moves + n)
 works_next t k states done p q r first notes more moves s n h has goes pre new spread is lt = record {
   goes = goes_on t p q r h.goes goes;
@@ -206,7 +192,7 @@ pub adds_by_more : (t : TableView) (k s : ℕ) (p q r : List Call) (first notes 
 adds_by_more t k s p q r first notes h pre u has = ⊎_elim (λ (old : Has first u). inl old) (λ (f : FoundBy t k p q s u). inr (foundby_more t k p p q r s u (prefix_self p) pre f)) (h u has)
 
 -- a whole round was worked with one pass, and what was noted stands in another order
-pub alone_worked : (t : TableView) (k : ℕ) (front : List ℕ) (p q : PassView) (first notes sorted : List ℕ) → Goes t p q → first ≡ [] → Worked t k q.seen notes front → AddsFound t k front p.seen q.seen first notes
+pub alone_worked : (t : TableView) (k : ℕ) (front : List ℕ) (p q : PassView) (first notes sorted : List ℕ) → IsLaterPass t p q → first ≡ [] → Worked t k q.seen notes front → AddsFound t k front p.seen q.seen first notes
     → ((v : ℕ) → Has notes v → Has sorted v) → ((v : ℕ) → Has sorted v → Has notes v) → IsWorked t k front p.seen q.seen sorted
 alone_worked t k front p q first notes sorted goes empty made adds into from = record {
   legal = goes.3;

@@ -10,10 +10,11 @@ use Rattle.steal_rounds.specs.declared.member.CrewMember.{CrewMember}
 use Rattle.std.specs.Prelude.{sum_by}
 use Rattle.std.proofs.lemmas.List.Sums.{sum_by-append, sum_by-cons}
 use Rattle.round_core.specs.Rounds.{Has}
-use Rattle.steal_rounds.specs.inside.Moves.{batch_states_of, Worked, Goes, AddsFound, Found, FoundBy}
+use Rattle.steal_rounds.specs.inside.Moves.{batch_states_of, Worked, IsLaterPass, AddsFound, Found, FoundBy}
 use Rattle.round_core.specs.inside.InRounds.{moves_of}
-use Rattle.steal_rounds.specs.inside.Crews.{Stole, Took, SameThieves, SameDeque, SameTools, Same, Made, Works, Turned, batch_moves, stolen_by, taken_by}
-use Rattle.steal_rounds.proofs.Spreads.{get_snoc, worked_into, has_more, prefix_self, prefix_trans, adds_on, adds_self}
+use Rattle.round_core.proofs.Places.{get_snoc}
+use Rattle.steal_rounds.specs.inside.Crews.{Stole, Took, SameThieves, SameDeque, SameTools, Same, MadeMoves, Works, Turned, batch_moves, stolen_by, taken_by}
+use Rattle.steal_rounds.proofs.Spreads.{worked_into, has_more, prefix_self, prefix_trans, adds_on, adds_self}
 
 some_same : {x y : ThiefView} → Some x ≡ Some y → x ≡ y
 some_same e = cc e
@@ -122,7 +123,7 @@ works_same t k frontier m n s tooks sums h = record {
     pass : IsSamePass m.pass n.pass × IsPrefix m.pass.seen n.pass.seen
     pass = subst (λ (x : PassView). IsSamePass m.pass x × IsPrefix m.pass.seen x.seen) (sym s.1) ((refl, refl), prefix_self m.pass.seen)
 
-pub made_on : (t : TableView) (k : ℕ) (frontier : List ℕ) (m n o : CrewMember) → Works t k frontier n o → Made t k frontier m n → Made t k frontier n o → Made t k frontier m o
+pub made_on : (t : TableView) (k : ℕ) (frontier : List ℕ) (m n o : CrewMember) → Works t k frontier n o → MadeMoves t k frontier m n → MadeMoves t k frontier n o → MadeMoves t k frontier m o
 made_on t k frontier m n o w p q = record {
   ample = p.ample;
   worked = λ b took. ⊎_elim
@@ -153,8 +154,8 @@ module _ (t : TableView) (k : ℕ) (frontier : List ℕ) (m n : CrewMember) (q :
   stepped : ℕ → Bool → CrewMember
   stepped moves short = record n { pass = q; notes = more; moves = moves; short = short }
 
-  works_by : (moves : ℕ) (short : Bool) → SameTools m n → Goes t n.pass q → IsPrefix n.notes.items more.items → AddsFound t k (batch_states_of frontier batch) n.pass.seen q.seen n.notes.items more.items
-      → (short ≡ false → Made t k frontier m (stepped moves short)) → Works t k frontier m (stepped moves short)
+  works_by : (moves : ℕ) (short : Bool) → SameTools m n → IsLaterPass t n.pass q → IsPrefix n.notes.items more.items → AddsFound t k (batch_states_of frontier batch) n.pass.seen q.seen n.notes.items more.items
+      → (short ≡ false → MadeMoves t k frontier m (stepped moves short)) → Works t k frontier m (stepped moves short)
   unfolding stepped
   works_by moves short s goes pre adds made = record {
     same = record {
@@ -177,7 +178,7 @@ module _ (t : TableView) (k : ℕ) (frontier : List ℕ) (m n : CrewMember) (q :
       p = subst (λ (x : PassView). IsSamePass x q × IsPrefix x.seen q.seen) s.1 (goes.1, goes.2)
 
   made_by : (moves count : ℕ) (short : Bool) → SameTools m n → short ≡ n.short → ((b : ℕ) → Took n b → (batch ≡ b) ⊎ Took m b) → taken_by (batch_moves t.lists frontier) n ≡ taken_by (batch_moves t.lists frontier) m + batch_moves t.lists frontier batch
-      → Worked t k q.seen more.items (batch_states_of frontier batch) → count ≡ moves_of t.lists (batch_states_of frontier batch) → moves ≡ n.moves + count → short ≡ false → Made t k frontier m (stepped moves short)
+      → Worked t k q.seen more.items (batch_states_of frontier batch) → count ≡ moves_of t.lists (batch_states_of frontier batch) → moves ≡ n.moves + count → short ≡ false → MadeMoves t k frontier m (stepped moves short)
   unfolding stepped
   made_by moves count short s same tooks sums worked counted sum is = record {
     ample = sym s.4 ∙ sym same ∙ is;
@@ -185,7 +186,7 @@ module _ (t : TableView) (k : ℕ) (frontier : List ℕ) (m n : CrewMember) (q :
     counted = let c = s.3 in omega (arith, sums, counted, sum, c);
   }
 
-pub works_more : (t : TableView) (k : ℕ) (frontier : List ℕ) (m n : CrewMember) (q : PassView) (more : Vec ℕ Global) (batch moves count : ℕ) → SameTools m n → Goes t n.pass q → IsPrefix n.notes.items more.items
+pub works_more : (t : TableView) (k : ℕ) (frontier : List ℕ) (m n : CrewMember) (q : PassView) (more : Vec ℕ Global) (batch moves count : ℕ) → SameTools m n → IsLaterPass t n.pass q → IsPrefix n.notes.items more.items
     → AddsFound t k (batch_states_of frontier batch) n.pass.seen q.seen n.notes.items more.items → ((b : ℕ) → Took n b → (batch ≡ b) ⊎ Took m b) → taken_by (batch_moves t.lists frontier) n ≡ taken_by (batch_moves t.lists frontier) m + batch_moves t.lists frontier batch
     → Worked t k q.seen more.items (batch_states_of frontier batch) → count ≡ moves_of t.lists (batch_states_of frontier batch) → moves ≡ n.moves + count
     → Works t k frontier m (record n { pass = q; notes = more; moves = moves })
@@ -193,7 +194,7 @@ unfolding stepped
 works_more t k frontier m n q more batch moves count s goes pre adds tooks sums worked counted sum =
     works_by t k frontier m n q more batch moves n.short s goes pre adds (made_by t k frontier m n q more batch moves count n.short s refl tooks sums worked counted sum)
 
-pub works_short : (t : TableView) (k : ℕ) (frontier : List ℕ) (m n : CrewMember) (q : PassView) (more : Vec ℕ Global) (batch : ℕ) → SameTools m n → Goes t n.pass q → IsPrefix n.notes.items more.items
+pub works_short : (t : TableView) (k : ℕ) (frontier : List ℕ) (m n : CrewMember) (q : PassView) (more : Vec ℕ Global) (batch : ℕ) → SameTools m n → IsLaterPass t n.pass q → IsPrefix n.notes.items more.items
     → AddsFound t k (batch_states_of frontier batch) n.pass.seen q.seen n.notes.items more.items
     → Works t k frontier m (record n { pass = q; notes = more; short = true })
 unfolding stepped

@@ -5,10 +5,10 @@ use Rattle.std.proofs.lemmas.Bool.{cases_lt}
 use Rattle.std.proofs.lemmas.List.Sums.{sum_by-append, sum_by-cons}
 use Rattle.round_core.specs.Rounds.{Has}
 use Rattle.dist_table.specs.Tables.{TableView}
+use Rattle.round_core.proofs.Places.{get_front, get_last, get_snoc}
 use Rattle.steal_rounds.specs.declared.member.CrewMember.{CrewMember}
 use Rattle.steal_rounds.specs.inside.Crews.{Turned}
 use Rattle.steal_rounds.specs.inside.Records.{HadTurns, AreCollected}
-use Rattle.steal_rounds.proofs.Spreads.{get_snoc, get_front, get_last}
 use Rattle.steal_rounds.proofs.Lists.{set_get, get_below}
 
 -- the first i workers had their turns

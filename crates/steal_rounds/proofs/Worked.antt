@@ -13,11 +13,13 @@ use Rattle.steal_batches.specs.Deques.{times_in}
 use Rattle.steal_batches.specs.Deques.{AreAllTaken, ThiefView}
 use Rattle.steal_rounds.specs.declared.member.CrewMember.{CrewMember}
 use Rattle.steal_rounds.specs.inside.Lists.{Each}
-use Rattle.steal_rounds.specs.inside.Moves.{Relaxed, Worked, batch_states_of, Found, Goes}
+use Rattle.steal_rounds.specs.inside.Moves.{Relaxed, Worked, batch_states_of, Found, IsLaterPass}
 use Rattle.round_core.specs.inside.InRounds.{moves_of}
-use Rattle.steal_rounds.specs.inside.Crews.{Took, Made, Turned, SameThieves, batch_moves, stolen_by, taken_by}
+use Rattle.round_core.proofs.Places.{take_past}
+use Rattle.steal_batches.proofs.StepLemmas.{times_in-append}
+use Rattle.steal_rounds.specs.inside.Crews.{Took, MadeMoves, Turned, SameThieves, batch_moves, stolen_by, taken_by}
 use Rattle.steal_rounds.specs.inside.Fronts.{IsWorked}
-use Rattle.steal_rounds.specs.inside.Records.{Keeps, AreReturned, AreBack, IsBlank, AreMade, HadTurns, AreCollected, sum_to}
+use Rattle.steal_rounds.specs.inside.Records.{KeepsRecord, AreReturned, AreBack, IsBlank, AreMade, HadTurns, AreCollected, sum_to}
 use Rattle.steal_rounds.proofs.Spreads.{prefix_trans, prefix_get, found_more, prefix_self}
 use Rattle.steal_rounds.proofs.Lists.{get_there, get_below, one_there, each_get, each_length, sums_by, sum_same}
 
@@ -36,10 +38,6 @@ times_has (x ∷ xs) b lt = elim (eqb_tells x b) [
   | inl h ↦ subst (λ y. Has (x ∷ xs) y) h.1 (has_first x xs)
   | inr h ↦ has_later x xs b (times_has xs b (let e = ap {B = ℕ} (λ (t : Bool). cond t 1 0) h.0 in omega (arith, lt, e)))
 ]
-
-times_in-append : (x : ℕ) (xs ys : List ℕ) → times_in x (xs ++ ys) ≡ times_in x xs + times_in x ys
-times_in-append x [] ys = omega arith
-times_in-append x (y ∷ xs) ys = let h = times_in-append x xs ys in omega (arith, h)
 
 split_at : (xs : List ℕ) (b : ℕ) → Has xs b → (us : List ℕ) × (vs : List ℕ) × (xs ≡ us ++ b ∷ vs)
 split_at xs b (i, e) = go xs i e
@@ -91,12 +89,6 @@ take_plus (suc m) n [] = let e : suc m + n ≡ suc (m + n) = omega arith in ap (
     none (suc k) = refl
 take_plus (suc m) n (x ∷ xs) = let e : suc m + n ≡ suc (m + n) = omega arith in ap (λ k. take k (x ∷ xs)) e ∙ ap (λ l. x ∷ l) (take_plus m n xs)
 
-take_all : (n : ℕ) (xs : List ℕ) → length xs ≤ n → take n xs ≡ xs
-take_all zero [] le = refl
-take_all zero (x ∷ xs) le = absurd (omega (arith, le))
-take_all (suc n) [] le = refl
-take_all (suc n) (x ∷ xs) le = ap (λ l. x ∷ l) (take_all n xs (omega (arith, le)))
-
 sum_batches : (lists : List (List ℕ)) (front : List ℕ) (b : ℕ) → sum_to (batch_moves lists front) b ≡ moves_of lists (take (64 * b) front)
 sum_batches lists front zero = let e : 64 * 0 ≡ 0 = omega arith in sym (ap (λ k. moves_of lists (take k front)) e)
 sum_batches lists front (suc b) =
@@ -141,7 +133,7 @@ relaxed_into t k seen now notes more s u p q r = (r.0, r.1, r.2, prefix_get seen
 
 module _ (t : TableView) (k : ℕ) (front : List ℕ) (p : PassView) (workers batches : ℕ) (xs0 xs1 xs2 xs3 : List CrewMember)
     (made : AreMade t p workers batches xs0) (run : Each (Turned t k front) xs0 xs1) (ret : AreReturned xs1 xs2) (back : AreBack xs2) (rest : HadTurns t k front xs2 xs3)
-    (notes : List ℕ) (moves : ℕ) (col : AreCollected xs3 notes moves) (q : PassView) (goes : Goes t p q) (seen : (j : ℕ) (m : CrewMember) → slice_get xs3 j ≡ Some m → IsPrefix m.pass.seen q.seen)
+    (notes : List ℕ) (moves : ℕ) (col : AreCollected xs3 notes moves) (q : PassView) (goes : IsLaterPass t p q) (seen : (j : ℕ) (m : CrewMember) → slice_get xs3 j ≡ Some m → IsPrefix m.pass.seen q.seen)
     (covers : length front ≤ 64 * batches) where
   -- one worker's record at the four moments
   record Chain (a : ℕ) (m3 : CrewMember) : Type 0 where
@@ -153,7 +145,7 @@ module _ (t : TableView) (k : ℕ) (front : List ℕ) (p : PassView) (workers ba
     at2 : slice_get xs2 a ≡ Some m2
     at3 : slice_get xs3 a ≡ Some m3
     ran : Turned t k front m0 m1
-    kept : Keeps m1 m2
+    kept : KeepsRecord m1 m2
     ended : Turned t k front m2 m3
 
   chain : (a : ℕ) (m3 : CrewMember) → slice_get xs3 a ≡ Some m3 → Chain a m3
@@ -167,10 +159,10 @@ module _ (t : TableView) (k : ℕ) (front : List ℕ) (p : PassView) (workers ba
   last_of : (a : ℕ) → a < length xs0 → (m3 : CrewMember) × (slice_get xs3 a ≡ Some m3)
   last_of a lt = get_there xs3 a (let l = len1 in let r = ret.count in let e = rest.count in omega (arith, lt, l, r, e))
 
-  made3 : (a : ℕ) (m3 : CrewMember) → (c : Chain a m3) → Made t k front c.m2 m3
+  made3 : (a : ℕ) (m3 : CrewMember) → (c : Chain a m3) → MadeMoves t k front c.m2 m3
   made3 a m3 c = c.ended.works.made (col.ample a m3 c.at3)
 
-  made1 : (a : ℕ) (m3 : CrewMember) → (c : Chain a m3) → Made t k front c.m0 c.m1
+  made1 : (a : ℕ) (m3 : CrewMember) → (c : Chain a m3) → MadeMoves t k front c.m0 c.m1
   made1 a m3 c = c.ran.works.made (sym c.kept.short ∙ (made3 a m3 c).ample)
 
   grown : (a : ℕ) (m3 : CrewMember) → (c : Chain a m3) → IsPrefix c.m1.pass.seen q.seen
@@ -263,6 +255,6 @@ module _ (t : TableView) (k : ℕ) (front : List ℕ) (p : PassView) (workers ba
       let o1 = sum_each of xs0 xs1 len1 (λ i x y e g. (let h = each_get (Turned t k front) xs0 xs1 i y run g in let s0 : h.0 ≡ x = one_there xs0 i h.0 x h.1 e in ap (λ l. sum_by f l) (h.2.works.same.deque.5 ∙ ap (λ (m : CrewMember). m.deque.offered) s0))) in
       let s = made.offered.sum f in
       let n = sum_batches t.lists front batches in
-      let w = ap (λ l. moves_of t.lists l) (take_all (64 * batches) front covers) in
+      let w = ap (λ l. moves_of t.lists l) (take_past (64 * batches) front covers) in
       let g = col.moves_made in
       omega (arith, a, b, z0, z1, r0, r1, d, o3, o2, o1, s, n, w, g)

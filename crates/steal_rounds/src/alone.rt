@@ -5,7 +5,7 @@ ghost use mathlib.Core.List.{IsPrefix};
 ghost use Rattle.graph_rules.specs.Graphs.{most_numbers};
 ghost use Rattle.round_core.specs.inside.InRounds.{moves_of};
 ghost use Rattle.steal_rounds.specs.MadeMoves.{HasGraph};
-ghost use Rattle.steal_rounds.specs.inside.Moves.{AddsFound, Goes, IsLegalPass, Worked};
+ghost use Rattle.steal_rounds.specs.inside.Moves.{AddsFound, IsLaterPass, IsLegalPass, Worked};
 ghost use Rattle.steal_rounds.specs.inside.Crews.{IsRound};
 ghost use Rattle.steal_rounds.specs.inside.Fronts.{IsWorked};
 
@@ -32,7 +32,7 @@ pub(crate) fn work_alone<R: Wait, G: StepGraph, K: Gate>(
     requires round { IsRound table.now distance frontier.now }
     requires pass { IsLegalPass table.now pass.old }
     requires few { length frontier.now ≤ most_numbers }
-    ensures pass { Goes table.now pass.old pass.new }
+    ensures pass { IsLaterPass table.now pass.old pass.new }
     ensures worked { IfOk result
         (λ r. IsWorked table.now distance frontier.now pass.old.seen pass.new.seen r.0.items) }
     ensures counted { IfOk result (λ r. r.1 ≡ moves_of table.now.lists frontier.now) }
@@ -58,10 +58,12 @@ fn spread_gated<R: Wait, G: StepGraph, K: Gate>(
     requires round { IsRound table.now distance frontier.now }
     requires pass { IsLegalPass table.now pass.old }
     requires few { length frontier.now ≤ most_numbers }
-    ensures pass { Goes table.now pass.old pass.new }
+    ensures pass { IsLaterPass table.now pass.old pass.new }
     ensures notes { IsPrefix notes.old.items notes.new.items }
-    ensures adds { AddsFound table.now distance frontier.now pass.old.seen pass.new.seen notes.old.items notes.new.items }
-    ensures made { IfOk result (λ _. Worked table.now distance pass.new.seen notes.new.items frontier.now) }
+    ensures adds { AddsFound table.now
+        distance frontier.now pass.old.seen pass.new.seen notes.old.items notes.new.items }
+    ensures made { IfOk result
+        (λ _. Worked table.now distance pass.new.seen notes.new.items frontier.now) }
     ensures count { IfOk result (λ moves. moves ≡ moves_of table.now.lists frontier.now) }
 {
     let mut moves = 0;

@@ -4,7 +4,7 @@ ghost use Rattle.std.specs.Prelude.{◌≡◌, ℕ, Some, slice_get, IfOk};
 ghost use mathlib.Core.List.{IsPrefix};
 ghost use Rattle.steal_rounds.specs.declared.member.CrewMember.{CrewMember};
 ghost use Rattle.steal_rounds.specs.inside.Crews.{AllOf};
-ghost use Rattle.steal_rounds.specs.inside.Moves.{Goes, IsLegalPass};
+ghost use Rattle.steal_rounds.specs.inside.Moves.{IsLaterPass, IsLegalPass};
 ghost use Rattle.steal_rounds.specs.inside.Records.{AreCollected};
 
 use crate::member::CrewMember;
@@ -20,8 +20,9 @@ pub(crate) fn join_all<G: StepGraph>(
 )
     requires pass { IsLegalPass table.now pass.old }
     requires crew { AllOf table.now crew.items }
-    ensures pass { Goes table.now pass.old pass.new }
-    ensures seen { (j : ℕ) (m : CrewMember) → slice_get crew.items j ≡ Some m → IsPrefix m.pass.seen pass.new.seen }
+    ensures pass { IsLaterPass table.now pass.old pass.new }
+    ensures seen { (j : ℕ) (m : CrewMember) →
+        slice_get crew.items j ≡ Some m → IsPrefix m.pass.seen pass.new.seen }
 {
     while let Some(member) = crew.pop() {
         let CrewMember {

@@ -44,7 +44,8 @@ fn take_back_of(crew: &mut Vec<CrewMember>, victim: usize)
 /// Gives a worker's thief of a deque back.
 fn take_back(crew: &mut Vec<CrewMember>, victim: usize, worker: usize)
     requires held { AreHeld victim worker crew.old.items }
-    requires below { (victim < length crew.old.items) × (worker < length crew.old.items) × (worker ≢ victim) }
+    requires below { (victim < length crew.old.items)
+        × (worker < length crew.old.items) × (worker ≢ victim) }
     ensures held { AreHeld victim (worker + 1) crew.new.items }
     ensures same { AreReturned crew.old.items crew.new.items }
 {
@@ -66,7 +67,8 @@ pub(crate) fn work_rest<R: Wait, G: StepGraph, K: Gate>(
 )
     requires graph { HasGraph table.now (G.origin graph.now) (G.lists graph.now) }
     requires round { IsRound table.now distance frontier.now }
-    requires passes { (a : ℕ) (m : CrewMember) → slice_get crew.old.items a ≡ Some m → IsLegalPass table.now m.pass }
+    requires passes { (a : ℕ) (m : CrewMember) →
+        slice_get crew.old.items a ≡ Some m → IsLegalPass table.now m.pass }
     ensures { HadTurns table.now distance frontier.now crew.old.items crew.new.items }
 {
     for worker in 0..crew.len() {

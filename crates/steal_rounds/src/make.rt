@@ -43,8 +43,8 @@ fn blank_crew<G: StepGraph>(
     requires room { (0 < room) × (room ≤ MOST_ROOM) }
     ensures same { pass.new ≡ pass.old }
     ensures count { IfOk result (λ crew. length crew.items ≡ workers) }
-    ensures fresh { IfOk result
-        (λ crew. AreBlank table.now pass.old crew.items × AreIdle crew.items × HaveRoom room crew.items) }
+    ensures fresh { IfOk result (λ crew. AreBlank table.now pass.old crew.items
+        × AreIdle crew.items × HaveRoom room crew.items) }
 {
     let mut crew = Vec::with_capacity(alloc, workers as usize)?;
     for worker in 0..workers {
@@ -68,7 +68,8 @@ fn offer_all(crew: &mut Vec<CrewMember>, workers: u32, batches: u32)
     requires workers { (1 ≤ workers) × (length crew.old.items ≡ workers) × (1 ≤ batches) }
     requires room { HaveRoom ((batches - 1) / workers + 1) crew.old.items }
     ensures count { length crew.new.items ≡ length crew.old.items }
-    ensures blank { (t : TableView) (p : PassView) → AreBlank t p crew.old.items → AreBlank t p crew.new.items }
+    ensures blank { (t : TableView) (p : PassView) →
+        AreBlank t p crew.old.items → AreBlank t p crew.new.items }
     ensures idle { AreIdle crew.old.items → AreIdle crew.new.items }
     ensures offered { AreOffered batches crew.new.items }
 {
@@ -82,9 +83,10 @@ fn hire_all(crew: &mut Vec<CrewMember>) -> Result<(), AllocError>
     requires few { length crew.old.items ≤ MOST_ROOM }
     requires idle { AreIdle crew.old.items }
     ensures count { IfOk result (λ _. length crew.new.items ≡ length crew.old.items) }
-    ensures blank { IfOk result
-        (λ _. (t : TableView) (p : PassView) → AreBlank t p crew.old.items → AreBlank t p crew.new.items) }
-    ensures offered { IfOk result (λ _. (b : ℕ) → AreOffered b crew.old.items → AreOffered b crew.new.items) }
+    ensures blank { IfOk result (λ _. (t : TableView) (p : PassView) →
+        AreBlank t p crew.old.items → AreBlank t p crew.new.items) }
+    ensures offered { IfOk result (λ _. (b : ℕ) →
+        AreOffered b crew.old.items → AreOffered b crew.new.items) }
     ensures held { IfOk result (λ _. AreHeld 0 0 crew.new.items) }
 {
     let mut victim = crew.len();
@@ -101,9 +103,10 @@ fn hire_of(crew: &mut Vec<CrewMember>, victim: usize) -> Result<(), AllocError>
     requires below { victim < length crew.old.items }
     requires held { AreHeld (victim + 1) 0 crew.old.items }
     ensures count { IfOk result (λ _. length crew.new.items ≡ length crew.old.items) }
-    ensures blank { IfOk result
-        (λ _. (t : TableView) (p : PassView) → AreBlank t p crew.old.items → AreBlank t p crew.new.items) }
-    ensures offered { IfOk result (λ _. (b : ℕ) → AreOffered b crew.old.items → AreOffered b crew.new.items) }
+    ensures blank { IfOk result (λ _. (t : TableView) (p : PassView) →
+        AreBlank t p crew.old.items → AreBlank t p crew.new.items) }
+    ensures offered { IfOk result (λ _. (b : ℕ) →
+        AreOffered b crew.old.items → AreOffered b crew.new.items) }
     ensures held { IfOk result (λ _. AreHeld victim 0 crew.new.items) }
 {
     let mut worker = crew.len();
@@ -120,12 +123,14 @@ fn hire_of(crew: &mut Vec<CrewMember>, victim: usize) -> Result<(), AllocError>
 /// Makes a thief of a deque for a worker.
 fn hire(crew: &mut Vec<CrewMember>, victim: usize, worker: usize) -> Result<(), AllocError>
     requires few { length crew.old.items ≤ MOST_ROOM }
-    requires below { (victim < length crew.old.items) × (worker < length crew.old.items) × (worker ≢ victim) }
+    requires below { (victim < length crew.old.items)
+        × (worker < length crew.old.items) × (worker ≢ victim) }
     requires held { AreHeld victim (worker + 1) crew.old.items }
     ensures count { IfOk result (λ _. length crew.new.items ≡ length crew.old.items) }
-    ensures blank { IfOk result
-        (λ _. (t : TableView) (p : PassView) → AreBlank t p crew.old.items → AreBlank t p crew.new.items) }
-    ensures offered { IfOk result (λ _. (b : ℕ) → AreOffered b crew.old.items → AreOffered b crew.new.items) }
+    ensures blank { IfOk result (λ _. (t : TableView) (p : PassView) →
+        AreBlank t p crew.old.items → AreBlank t p crew.new.items) }
+    ensures offered { IfOk result (λ _. (b : ℕ) →
+        AreOffered b crew.old.items → AreOffered b crew.new.items) }
     ensures held { IfOk result (λ _. AreHeld victim worker crew.new.items) }
 {
     let thief = crew[victim].deque.thief(worker as u32)?;

@@ -6,7 +6,7 @@ ghost use Rattle.round_core.specs.inside.InRounds.{moves_of};
 ghost use Rattle.round_core.specs.Rounds.{Has, AreRisingNumbers};
 ghost use Rattle.steal_rounds.specs.MadeMoves.{HasGraph};
 ghost use Rattle.steal_rounds.specs.inside.Lists.{Each};
-ghost use Rattle.steal_rounds.specs.inside.Moves.{Goes, IsLegalPass};
+ghost use Rattle.steal_rounds.specs.inside.Moves.{IsLaterPass, IsLegalPass};
 ghost use Rattle.steal_rounds.specs.inside.Crews.{IsRound, Turned};
 ghost use Rattle.steal_rounds.specs.inside.Fronts.{IsWorked};
 
@@ -71,8 +71,9 @@ where
     requires pass { IsLegalPass table.now pass.old }
     requires workers { 1 ≤ workers }
     requires size { (0 < length frontier.now) × (length frontier.now ≤ most_numbers) }
-    ensures pass { Goes table.now pass.old pass.new }
-    ensures worked { IfOk result (λ r. IsWorked table.now distance frontier.now pass.old.seen pass.new.seen r.0.items) }
+    ensures pass { IsLaterPass table.now pass.old pass.new }
+    ensures worked { IfOk result
+        (λ r. IsWorked table.now distance frontier.now pass.old.seen pass.new.seen r.0.items) }
     ensures counted { IfOk result (λ r. r.1 ≡ moves_of table.now.lists frontier.now) }
 {
     if workers == 1 || frontier.len() <= 64 {
@@ -103,8 +104,9 @@ where
     requires pass { IsLegalPass table.now pass.old }
     requires workers { 1 ≤ workers }
     requires size { (0 < length frontier.now) × (length frontier.now ≤ most_numbers) }
-    ensures pass { Goes table.now pass.old pass.new }
-    ensures worked { IfOk result (λ r. IsWorked table.now distance frontier.now pass.old.seen pass.new.seen r.0.items) }
+    ensures pass { IsLaterPass table.now pass.old pass.new }
+    ensures worked { IfOk result
+        (λ r. IsWorked table.now distance frontier.now pass.old.seen pass.new.seen r.0.items) }
     ensures counted { IfOk result (λ r. r.1 ≡ moves_of table.now.lists frontier.now) }
 {
     let batches = ((frontier.len() + 63) / 64) as u32;

@@ -7,7 +7,7 @@ ghost use Rattle.round_core.specs.inside.InRounds.{moves_of};
 ghost use Rattle.round_core.specs.Rounds.{Has};
 ghost use Rattle.dist_table.specs.declared.table.TheConstants.{DISTANCES};
 ghost use Rattle.steal_rounds.specs.MadeMoves.{HasGraph};
-ghost use Rattle.steal_rounds.specs.inside.Moves.{AddsFound, FoundBy, Goes, IsLegalPass, Spread, Worked};
+ghost use Rattle.steal_rounds.specs.inside.Moves.{AddsFound, FoundBy, IsLaterPass, IsLegalPass, Spread, Worked};
 ghost use Rattle.steal_rounds.specs.inside.Crews.{IsRound};
 
 use dist_table::{DistTable, Pass};
@@ -27,10 +27,12 @@ pub(crate) fn spread_all<G: StepGraph>(
     requires round { IsRound table.now distance states.now }
     requires few { length states.now ≤ 64 }
     requires pass { IsLegalPass table.now pass.old }
-    ensures pass { Goes table.now pass.old pass.new }
+    ensures pass { IsLaterPass table.now pass.old pass.new }
     ensures notes { IsPrefix notes.old.items notes.new.items }
-    ensures adds { AddsFound table.now distance states.now pass.old.seen pass.new.seen notes.old.items notes.new.items }
-    ensures made { IfOk result (λ _. Worked table.now distance pass.new.seen notes.new.items states.now) }
+    ensures adds { AddsFound table.now
+        distance states.now pass.old.seen pass.new.seen notes.old.items notes.new.items }
+    ensures made { IfOk result
+        (λ _. Worked table.now distance pass.new.seen notes.new.items states.now) }
     ensures count { IfOk result (λ moves. moves ≡ moves_of table.now.lists states.now) }
 {
     let mut moves = 0;
@@ -52,14 +54,17 @@ pub(crate) fn spread<G: StepGraph>(
 ) -> Result<u64, AllocError>
     requires graph { HasGraph table.now (G.origin graph.now) (G.lists graph.now) }
     requires near { distance < DISTANCES }
-    requires state { (state < length table.now.lists) × Reaches table.now.origin table.now.lists distance state }
+    requires state { (state < length table.now.lists)
+        × Reaches table.now.origin table.now.lists distance state }
     requires pass { IsLegalPass table.now pass.old }
-    ensures pass { Goes table.now pass.old pass.new }
+    ensures pass { IsLaterPass table.now pass.old pass.new }
     ensures notes { IsPrefix notes.old.items notes.new.items }
     ensures adds { (u : ℕ) → Has notes.new.items u
         → Has notes.old.items u ⊎ FoundBy table.now distance pass.old.seen pass.new.seen state u }
-    ensures made { IfOk result (λ _. Spread table.now distance pass.new.seen notes.new.items state) }
-    ensures count { IfOk result (λ moves. (moves ≡ length (row table.now.lists state)) × (moves < 4294967296)) }
+    ensures made { IfOk result
+        (λ _. Spread table.now distance pass.new.seen notes.new.items state) }
+    ensures count { IfOk result (λ moves. (moves ≡ length (row table.now.lists state))
+        × (moves < 4294967296)) }
 {
     let value = word_after(distance, state);
     let mut moves = 0;

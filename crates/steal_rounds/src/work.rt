@@ -139,7 +139,8 @@ fn batch_states(frontier: &[u32], batch: u32) -> &[u32]
 fn next_batch<R: Wait>(rt: &R, member: &mut CrewMember) -> Option<Receipt>
     ensures took { (b : ℕ) → Took member.new b
         → (IfSome result (λ r. r.batch ≡ b) × IsSome result) ⊎ Took member.old b }
-    ensures some { IfSome result (λ r. (f : ℕ → ℕ) → taken_by f member.new ≡ taken_by f member.old + f r.batch) }
+    ensures some { IfSome result (λ r. (f : ℕ → ℕ) →
+        taken_by f member.new ≡ taken_by f member.old + f r.batch) }
     ensures none { IfNone result ((f : ℕ → ℕ) → taken_by f member.new ≡ taken_by f member.old) }
     ensures emptied { IfNone result (member.old.deque.thieves ≡ 0 → AreAllTaken member.new.deque) }
     ensures same { SameTools member.old member.new }
@@ -154,9 +155,10 @@ fn next_batch<R: Wait>(rt: &R, member: &mut CrewMember) -> Option<Receipt>
 fn steal_any<R: Wait>(rt: &R, thieves: &mut Vec<BatchThief>) -> Option<Receipt>
     ensures took { (b : ℕ) → Stole thieves.new.items b
         → (IfSome result (λ r. r.batch ≡ b) × IsSome result) ⊎ Stole thieves.old.items b }
-    ensures some { IfSome result
-        (λ r. (f : ℕ → ℕ) → stolen_by f thieves.new.items ≡ stolen_by f thieves.old.items + f r.batch) }
-    ensures none { IfNone result ((f : ℕ → ℕ) → stolen_by f thieves.new.items ≡ stolen_by f thieves.old.items) }
+    ensures some { IfSome result (λ r. (f : ℕ → ℕ) →
+        stolen_by f thieves.new.items ≡ stolen_by f thieves.old.items + f r.batch) }
+    ensures none { IfNone result ((f : ℕ → ℕ) →
+        stolen_by f thieves.new.items ≡ stolen_by f thieves.old.items) }
     ensures same { SameThieves thieves.old.items thieves.new.items }
 {
     for i in 0..thieves.len() {

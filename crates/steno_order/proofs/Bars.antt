@@ -1,10 +1,11 @@
 -- A canonical text has a bar or a digit just where key 0 is pressed.
-use Rattle.std.proofs.Common.{◌≡◌, ℕ, zero, suc, ◌+◌, ◌<◌, ◌≤◌, List, [], ◌∷◌, ◌++◌, map, length, refl, sym, ap, arith, Bool, true, false, cond, true≢false, ◌⊎◌, inl, inr, ◌∙◌}
+use Rattle.std.proofs.Common.{◌≡◌, ℕ, zero, suc, ◌+◌, ◌<◌, ◌≤◌, List, [], ◌∷◌, ◌++◌, map, length, refl, sym, ap, arith, Bool, true, false, cond, inl, inr, ◌∙◌}
 use Rattle.std.specs.Prelude.{◌&&◌, ◌||◌, ◌==◌, nat_lt, not, if◌then◌else◌}
 use Rattle.std.specs.List.{range_with_len, list_any}
 use Rattle.std.specs.Char.{is_ascii_digit}
 use Rattle.std.proofs.lemmas.List.Elements.{filter-append}
 use Rattle.std.proofs.lemmas.List.Folds.{list_any-append}
+use Rattle.std.proofs.lemmas.Bool.{or_cases, or_right, or_left, not-true}
 use Rattle.steno_order.specs.Keys.{letter, has, has_bar, hyphen, bar}
 use Rattle.steno_order.specs.Canonical.{keys_from, mark, bar_text, hyphen_text, canonical}
 use Rattle.steno_order.proofs.Ranges.{tested}
@@ -21,34 +22,22 @@ any_map t f (x ∷ xs) = ap (λ b. t (f x) || b) (any_map t f xs)
 plain_letter : (key : ℕ) → 1 ≤ key → key < 23 → not (barring (letter key)) ≡ true
 plain_letter = tested (λ key. not (barring (letter key))) 1 22 refl
 
-not_true : (b : Bool) → not b ≡ true → b ≡ false
-not_true true e = absurd (true≢false (sym e))
-not_true false e = refl
-
 -- no letter of a key from 1 on is a bar or a digit
 no_bars : (code a n : ℕ) → 1 ≤ a → a + n ≤ 23 → list_any (λ key. barring (letter key)) (keys_from code a n) ≡ false
 no_bars code a zero pos top = refl
 no_bars code a (suc n) pos top = by (has code a) (no_bars code (a + 1) n (omega arith) (omega arith))
   where
     by : (b : Bool) → list_any (λ key. barring (letter key)) (keys_from code (a + 1) n) ≡ false → list_any (λ key. barring (letter key)) (cond b (a ∷ keys_from code (a + 1) n) (keys_from code (a + 1) n)) ≡ false
-    by true rest = rw (not_true (barring (letter a)) (plain_letter a pos (omega arith)), rest) refl
+    by true rest = rw (not-true (barring (letter a)) (plain_letter a pos (omega arith)), rest) refl
     by false rest = rest
-
-or_true : (x y : Bool) → y ≡ true → (x || y) ≡ true
-or_true true y e = refl
-or_true false y e = e
-
-or_left : (x y : Bool) → x ≡ true → (x || y) ≡ true
-or_left true y e = refl
-or_left false y e = absurd (true≢false (sym e))
 
 weaker : (f : ℕ → ℕ) (xs : List ℕ) → list_any (λ x. is_ascii_digit (f x)) xs ≡ true → list_any (λ x. barring (f x)) xs ≡ true
 weaker f [] e = e
 weaker f (x ∷ xs) e = by (is_ascii_digit (f x)) refl e (weaker f xs)
   where
     by : (b : Bool) → is_ascii_digit (f x) ≡ b → (b || list_any (λ y. is_ascii_digit (f y)) xs) ≡ true → (list_any (λ y. is_ascii_digit (f y)) xs ≡ true → list_any (λ y. barring (f y)) xs ≡ true) → list_any (λ y. barring (f y)) (x ∷ xs) ≡ true
-    by true is e rest = or_left (barring (f x)) (list_any (λ y. barring (f y)) xs) (rw is (or_true (f x == bar) true refl))
-    by false is e rest = or_true (barring (f x)) (list_any (λ y. barring (f y)) xs) (rest e)
+    by true is e rest = or_left (barring (f x)) (list_any (λ y. barring (f y)) xs) (rw is (or_right (f x == bar) true refl))
+    by false is e rest = or_right (barring (f x)) (list_any (λ y. barring (f y)) xs) (rest e)
 
 -- the keys of the left and those of the right
 pub cut_22 : (code : ℕ) → keys_from code 1 22 ≡ keys_from code 1 12 ++ keys_from code 13 10
@@ -83,18 +72,14 @@ plain_text code none =
 abbrev pub has_digit : ℕ → List ℕ → Bool
 has_digit code keys = list_any (λ key. is_ascii_digit (mark code key)) keys
 
-either : (x y : Bool) → (x || y) ≡ true → (x ≡ true) ⊎ (y ≡ true)
-either true y e = inl refl
-either false y e = inr e
-
 first_of_four : (a b c d : Bool) → a ≡ true → (a || (b || (c || d))) ≡ true
 first_of_four a b c d e = rw e refl
 
 second_of_four : (a b c d : Bool) → b ≡ true → (a || (b || (c || d))) ≡ true
-second_of_four a b c d e = or_true a (b || (c || d)) (or_left b (c || d) e)
+second_of_four a b c d e = or_right a (b || (c || d)) (or_left b (c || d) e)
 
 fourth_of_four : (a b c d : Bool) → d ≡ true → (a || (b || (c || d))) ≡ true
-fourth_of_four a b c d e = or_true a (b || (c || d)) (or_true b (c || d) (or_true c d e))
+fourth_of_four a b c d e = or_right a (b || (c || d)) (or_right b (c || d) (or_right c d e))
 
 marks_bar : (code : ℕ) (keys : List ℕ) → has_digit code keys ≡ true → list_any barring (map (mark code) keys) ≡ true
 marks_bar code keys e = any_map barring (mark code) keys ∙ weaker (mark code) keys e
@@ -112,7 +97,7 @@ barred_text code is =
     ∙ elim (false_or_true (has_digit code (keys_from code 1 22))) [
       | inl some ↦ (
           let split : (has_digit code (keys_from code 1 12) || has_digit code (keys_from code 13 10)) ≡ true = sym (ap (has_digit code) (cut_22 code) ∙ list_any-append (λ key. is_ascii_digit (mark code key)) (keys_from code 1 12) (keys_from code 13 10)) ∙ some in
-          elim (either (has_digit code (keys_from code 1 12)) (has_digit code (keys_from code 13 10)) split) [
+          elim (or_cases (has_digit code (keys_from code 1 12)) (has_digit code (keys_from code 13 10)) split) [
             | inl l ↦ second_of_four (list_any barring (bar_text code)) (list_any barring (map (mark code) (keys_from code 1 12))) (list_any barring (hyphen_text code)) (list_any barring (map (mark code) (keys_from code 13 10))) (marks_bar code (keys_from code 1 12) l)
             | inr r ↦ fourth_of_four (list_any barring (bar_text code)) (list_any barring (map (mark code) (keys_from code 1 12))) (list_any barring (hyphen_text code)) (list_any barring (map (mark code) (keys_from code 13 10))) (marks_bar code (keys_from code 13 10) r)
           ])

@@ -3,7 +3,7 @@ use Rattle.std.proofs.Common.{◌≡◌, ℕ, zero, suc, ◌+◌, ◌*◌, ◌^�
 use Rattle.std.specs.Prelude.{◌&&◌, All, filter, nat_lt, Option, Some, None, option_map, option_and_then, if◌then◌else◌}
 use Rattle.std.specs.Option.{is_none}
 use Rattle.std.specs.List.{AllZip, position_or_len, range_with_len}
-use Rattle.std.proofs.lemmas.Bool.{lt-ltb, ltb-true}
+use Rattle.std.proofs.lemmas.Bool.{lt-ltb, ltb-true, and_parts}
 use Rattle.std.proofs.lemmas.List.{length-append}
 use Rattle.std.proofs.lemmas.List.Elements.{All-cons, recursion_from_All}
 use Rattle.text_rules.proofs.Splits.{some_part}
@@ -14,7 +14,6 @@ use Rattle.steno_order.specs.Canonical.{keys_from, mark, needs_bar, needs_hyphen
 use Rattle.steno_order.specs.Spelling.{Spelling, SpellingOfAll, parts_of}
 use Rattle.steno_order.specs.Reading.{readings, all_some, spelt_strokes, unreadable_part}
 use Rattle.steno_order.specs.inside.Steps.{after_character, stroke_with, spelt_from}
-use Rattle.steno_order.proofs.Ranges.{both}
 use Rattle.steno_order.proofs.Spellings.{Spelling-stroke}
 use Rattle.steno_order.proofs.Steps.{nothing, stroke_of-steps}
 use Rattle.steno_order.proofs.Lists.{canonical-SpellingOfAll, SpellingOfAll-strokes, strokes-SpellingOfAll}
@@ -26,7 +25,7 @@ with-IsStroke n code e = by (nat_lt 0 n && nat_lt n (2 ^ 23)) refl e
     by : (b : Bool) → (nat_lt 0 n && nat_lt n (2 ^ 23)) ≡ b → (if b then Some n else None) ≡ Some code → IsStroke code
     by false is e = absurd (true≢false cc)
     by true is e =
-        let two = both (nat_lt 0 n) (nat_lt n (2 ^ 23)) is in
+        let two = and_parts (nat_lt 0 n) (nat_lt n (2 ^ 23)) is in
         let same : n ≡ code = cc in
         subst IsStroke same (ltb-true 0 n two.0, ltb-true n (2 ^ 23) two.1)
 

@@ -1,14 +1,13 @@
 -- What one turn of the reading loops does.
 use Rattle.std.proofs.Common.{◌≡◌, ℕ, ◌+◌, ◌^◌, ◌<◌, ◌≤◌, List, [], ◌∷◌, length, get_or, take, drop, drop-cons, add-one, refl, sym, ap, arith, Bool, true, false, true≢false, ◌∙◌}
 use Rattle.std.specs.Prelude.{◌&&◌, nat_lt, ◌-◌, Option, Some, None, MatchOption, SomeIff, option_and_then, if◌then◌else◌}
-use Rattle.std.proofs.lemmas.Bool.{lt-ltb, ltb-true, ne_eqb}
+use Rattle.std.proofs.lemmas.Bool.{lt-ltb, ltb-true, ne_eqb, and_parts}
 use Rattle.std.proofs.lemmas.List.{drop_all, take_all, length-drop}
 use Rattle.steno_rules.specs.Outlines.{IsStroke}
 use Rattle.steno_order.specs.declared.pressed.Pressed.{Pressed}
 use Rattle.steno_order.specs.Keys.{slash}
 use Rattle.steno_order.specs.Reading.{readings}
 use Rattle.steno_order.specs.inside.Steps.{after_character, stroke_with, spelt_from, readings_from}
-use Rattle.steno_order.proofs.Ranges.{both}
 use Rattle.steno_order.proofs.Parts.{readings-slash, readings-step, readings-none}
 
 next_byte : (bytes : List ℕ) (i : ℕ) → i < length bytes → drop i bytes ≡ get_or bytes i 0 ∷ drop (i + 1) bytes
@@ -19,7 +18,7 @@ pub stroke_is : (o : Option ℕ) (code : ℕ) → SomeIff o (IsStroke code) code
 stroke_is None code h = by (nat_lt 0 code && nat_lt code (2 ^ 23)) refl
   where
     by : (t : Bool) → (nat_lt 0 code && nat_lt code (2 ^ 23)) ≡ t → None ≡ (if t then Some code else None)
-    by true is = let two = both (nat_lt 0 code) (nat_lt code (2 ^ 23)) is in absurd (h (ltb-true 0 code two.0, ltb-true code (2 ^ 23) two.1))
+    by true is = let two = and_parts (nat_lt 0 code) (nat_lt code (2 ^ 23)) is in absurd (h (ltb-true 0 code two.0, ltb-true code (2 ^ 23) two.1))
     by false isnt = refl
 stroke_is (Some x) code h = rw (lt-ltb 0 code h.0.0, lt-ltb code (2 ^ 23) h.0.1, h.1) refl
 

@@ -4,11 +4,11 @@ use Rattle.std.specs.Prelude.{◌&&◌, not, All, if◌then◌else◌}
 use Rattle.std.specs.List.{range_with_len, list_all}
 use Rattle.std.proofs.lemmas.List.{map-append}
 use Rattle.std.proofs.lemmas.List.Elements.{filter-append, All-cons}
-use Rattle.std.proofs.lemmas.Bool.{cases_lt}
+use Rattle.std.proofs.lemmas.Bool.{cases_lt, and_parts}
 use Rattle.steno_order.specs.Keys.{letter, numbered, is_written, has}
 use Rattle.steno_order.specs.Spelling.{Press, chars_of, keys_of, last_key, IsFirstKey}
 use Rattle.steno_order.specs.Canonical.{keys_from, mark}
-use Rattle.steno_order.proofs.Ranges.{both, tested}
+use Rattle.steno_order.proofs.Ranges.{tested}
 use Rattle.steno_order.proofs.Presses.{Chain}
 use Rattle.steno_order.proofs.Spellings.{not_of}
 
@@ -57,12 +57,12 @@ passed last least key j pos lt r a f below = elim (cases_lt key 13) [
 
 first_here : (code last least key : ℕ) → 1 ≤ key → key < 23 → Reaches last least (key + 1) → last < key → least ≤ key → IsFirstKey last least (press code key)
 first_here code last least key pos lt r a f = record {
-  written = (let two = both (is_written (letter key) key) (is_written (numbered key) key) (own key pos lt) in marked code key (λ c. is_written c key ≡ true) two.0 two.1);
+  written = (let two = and_parts (is_written (letter key) key) (is_written (numbered key) key) (own key pos lt) in marked code key (λ c. is_written c key ≡ true) two.0 two.1);
   after = a;
   from = f;
   first = λ j w a' f'. elim (cases_lt j key) [
     | inl below ↦ (
-        let two = both (not (is_written (letter key) j)) (not (is_written (numbered key) j)) (passed last least key j pos lt r a' f' below) in
+        let two = and_parts (not (is_written (letter key) j)) (not (is_written (numbered key) j)) (passed last least key j pos lt r a' f' below) in
         let none = marked code key (λ c. not (is_written c j) ≡ true) two.0 two.1 in
         absurd (not_of (is_written (mark code key) j) none w))
     | inr ge ↦ ge

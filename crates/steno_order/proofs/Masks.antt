@@ -4,12 +4,11 @@ use Rattle.std.specs.Prelude.{◌&&◌, ◌||◌, ◌==◌, ◌↔◌, not, IsTr
 use Rattle.std.specs.List.{list_any, range_with_len}
 use Rattle.std.specs.Int.{bit_at, IsBitSet}
 use Rattle.std.specs.Int.Bits.{bit_and}
-use Rattle.std.proofs.lemmas.Bool.{cases_lt, eqb-true, eq-eqb, ne_eqb}
+use Rattle.std.proofs.lemmas.Bool.{cases_lt, eqb-true, eq-eqb, ne_eqb, and_parts}
 use Rattle.std.proofs.lemmas.Nat.Bits.{and_pow, bit_at_and, bit_at-lt, bit_at-zero, same_from_bits_below}
 use Rattle.std.proofs.lemmas.Nat.{pow_pos, and_le_r}
 use Rattle.steno_order.specs.Keys.{has}
 use Rattle.steno_order.specs.inside.Steps.{has_one}
-use Rattle.steno_order.proofs.Ranges.{both}
 use Rattle.steno_order.proofs.Presses.{false_or_true}
 
 -- what the test of one key answers
@@ -69,7 +68,7 @@ masked code keys lt = by (list_any (λ key. has keys key && has code key) (range
     by : (b : Bool) → list_any (λ key. has keys key && has code key) (range_with_len 0 23) ≡ b → not (bit_and code keys == 0) ≡ b
     by true some =
         let k = any_some (λ key. has keys key && has code key) 0 23 some in
-        let two = both (has keys k.0) (has code k.0) k.1 in
+        let two = and_parts (has keys k.0) (has code k.0) k.1 in
         let x = eqb-true (bit_at keys k.0) 1 two.0 in
         let y = eqb-true (bit_at code k.0) 1 two.1 in
         let all = bit_at_and code keys k.0 in

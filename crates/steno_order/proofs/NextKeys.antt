@@ -4,12 +4,12 @@ use Rattle.std.specs.Prelude.{◌&&◌, nat_lt, nat_le, not, Some, None, if◌th
 use Rattle.std.specs.List.{list_all, range_with_len}
 use Rattle.std.specs.Int.{bit_at, trailing_zeros, w32}
 use Rattle.std.proofs.Math.Nat.{div-div-eq-div-mul}
-use Rattle.std.proofs.lemmas.Bool.{cases_lt, le-leb, lt-leb, ltb-true, eq-eqb, ne_eqb}
+use Rattle.std.proofs.lemmas.Bool.{cases_lt, le-leb, lt-leb, ltb-true, eq-eqb, ne_eqb, and_parts}
 use Rattle.std.proofs.lemmas.Nat.{pow-add}
 use Rattle.std.proofs.lemmas.Nat.Bits.{bit_at_above, bit_at-zero, bit_at-trailing_zeros}
 use Rattle.steno_order.specs.Keys.{is_written, has}
 use Rattle.steno_order.specs.inside.Steps.{has_keys, next_key_of}
-use Rattle.steno_order.proofs.Ranges.{both, tested, range_find, range_none}
+use Rattle.steno_order.proofs.Ranges.{tested, range_find, range_none}
 
 agree : (w e : Bool) → (if w then e else not e) ≡ true → w ≡ e
 agree true e h = sym h
@@ -23,7 +23,7 @@ pub record KeysOf (c keys : ℕ) : Type 0 where
 
 pub has_keys-KeysOf : (c keys : ℕ) → has_keys c keys ≡ true → KeysOf c keys
 has_keys-KeysOf c keys h =
-    let two = both (nat_lt keys (2 ^ 23)) (list_all (λ key. if is_written c key then has keys key else not (has keys key)) (range_with_len 0 23)) h in
+    let two = and_parts (nat_lt keys (2 ^ 23)) (list_all (λ key. if is_written c key then has keys key else not (has keys key)) (range_with_len 0 23)) h in
     record {
       below = ltb-true keys (2 ^ 23) two.0;
       each = λ key lt. agree (is_written c key) (has keys key) (tested (λ k. if is_written c k then has keys k else not (has keys k)) 0 23 two.1 key (omega arith) (omega arith));

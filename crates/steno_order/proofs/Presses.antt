@@ -2,18 +2,18 @@
 use Rattle.std.proofs.Common.{◌≡◌, ℕ, ◌<◌, ◌≤◌, List, [], ◌∷◌, ◌++◌, refl, sym, ap, subst, arith, Bool, true, false, true≢false, ◌⊎◌, inl, inr, ◌∙◌}
 use Rattle.std.specs.Prelude.{◌&&◌, ◌||◌, ◌==◌, nat_lt, nat_le, Option, Some, None, option_map, option_and_then}
 use Rattle.std.proofs.lemmas.Bool.Decides.{Decides-ltb}
-use Rattle.std.proofs.lemmas.Bool.{cases_lt, le-leb, leb-true}
+use Rattle.std.proofs.lemmas.Bool.{cases_lt, le-leb, leb-true, and_parts}
 use Rattle.steno_order.specs.Keys.{is_written, letter, numbered}
 use Rattle.steno_order.specs.Spelling.{Press, chars_of, keys_of, last_key, IsFirstKey, ArePressed}
 use Rattle.steno_order.specs.Reading.{first_key, pressed}
-use Rattle.steno_order.proofs.Ranges.{both, find_range, range_find}
+use Rattle.steno_order.proofs.Ranges.{find_range, range_find}
 
 -- the key may be pressed next
 abbrev may : ℕ → ℕ → ℕ → ℕ → Bool
 may last least c key = is_written c key && (nat_lt last key && nat_le least key)
 
 pub below_23 : (c key : ℕ) → is_written c key ≡ true → key < 23
-below_23 c key w = (Decides-ltb key 23).0 (both (nat_lt key 23) (letter key == c || numbered key == c) w).0
+below_23 c key w = (Decides-ltb key 23).0 (and_parts (nat_lt key 23) (letter key == c || numbered key == c) w).0
 
 pub false_or_true : (b : Bool) → (b ≡ true) ⊎ (b ≡ false)
 false_or_true true = inl refl
@@ -22,8 +22,8 @@ false_or_true false = inr refl
 pub first_key-is : (last least c key : ℕ) → first_key last least c ≡ Some key → IsFirstKey last least (record { char = c; key = key })
 first_key-is last least c key e =
     let found = find_range (may last least c) 0 23 key e in
-    let parts = both (is_written c key) (nat_lt last key && nat_le least key) found.0 in
-    let bounds = both (nat_lt last key) (nat_le least key) parts.1 in
+    let parts = and_parts (is_written c key) (nat_lt last key && nat_le least key) found.0 in
+    let bounds = and_parts (nat_lt last key) (nat_le least key) parts.1 in
     record {
       written = parts.0;
       after = (Decides-ltb last key).0 bounds.0;
@@ -42,8 +42,8 @@ is-first_key last least c key h =
     range_find (may last least c) 0 23 key (rw (h.written, (Decides-ltb last key).1 h.after, le-leb least key h.from) refl) (omega arith) (below_23 c key h.written)
     (λ j ge lt. elim (false_or_true (may last least c j)) [
       | inl is ↦ (
-          let parts = both (is_written c j) (nat_lt last j && nat_le least j) is in
-          let bounds = both (nat_lt last j) (nat_le least j) parts.1 in
+          let parts = and_parts (is_written c j) (nat_lt last j && nat_le least j) is in
+          let bounds = and_parts (nat_lt last j) (nat_le least j) parts.1 in
           let le = h.first j parts.0 ((Decides-ltb last j).0 bounds.0) (leb-true least j bounds.1) in
           absurd (omega arith))
       | inr isnt ↦ isnt

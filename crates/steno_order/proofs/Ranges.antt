@@ -1,18 +1,13 @@
 -- Tests over a range of numbers.
 use Rattle.std.proofs.Common.{◌≡◌, ℕ, zero, suc, ◌+◌, ◌<◌, ◌≤◌, refl, sym, ap, subst, arith, Bool, true, false, true≢false, cond, inl, inr}
-use Rattle.std.specs.Prelude.{◌&&◌, find, Option, Some, None}
+use Rattle.std.specs.Prelude.{find, Option, Some, None}
 use Rattle.std.specs.List.{list_all, range_with_len}
-use Rattle.std.proofs.lemmas.Bool.{cases_lt}
-
-pub both : (x y : Bool) → (x && y) ≡ true → (x ≡ true) × (y ≡ true)
-both true true e = (refl, refl)
-both true false e = absurd (true≢false (sym e))
-both false y e = absurd (true≢false (sym e))
+use Rattle.std.proofs.lemmas.Bool.{cases_lt, and_parts}
 
 pub tested : (test : ℕ → Bool) (a n : ℕ) → list_all test (range_with_len a n) ≡ true → (k : ℕ) → a ≤ k → k < a + n → test k ≡ true
 tested test a zero all k ge lt = absurd (omega arith)
 tested test a (suc n) all k ge lt =
-    let two = both (test a) (list_all test (range_with_len (a + 1) n)) all in
+    let two = and_parts (test a) (list_all test (range_with_len (a + 1) n)) all in
     elim (cases_lt a k) [
       | inl later ↦ tested test (a + 1) n two.1 k (omega arith) (omega arith)
       | inr here ↦ let same : a ≡ k = omega arith in subst (λ j. test j ≡ true) same two.0

@@ -5,12 +5,12 @@ use Rattle.std.specs.List.{join_with_byte, list_all}
 use Rattle.std.proofs.lemmas.List.{map-append}
 use Rattle.std.proofs.lemmas.List.Splits.{join_with_byte-slice_split}
 use Rattle.text_rules.specs.Lines.{parts_between}
-use Rattle.std.proofs.lemmas.Bool.{eqb-true, lt-ltb, ltb-true}
+use Rattle.std.proofs.lemmas.Bool.{eqb-true, lt-ltb, ltb-true, and_parts}
 use Rattle.std.proofs.lemmas.List.Elements.{All-head, All-tail, All-cons}
 use Rattle.steno_order.specs.Keys.{is_written, hyphen, bar, keys_code, has_bar}
 use Rattle.steno_order.specs.Spelling.{Press, chars_of, keys_of, last_key, IsFirstKey, Spelling}
 use Rattle.steno_order.specs.Reading.{pressed, last_of, with_right, keys_in, without_bar, some_code, stroke_of}
-use Rattle.steno_order.proofs.Ranges.{tested, both}
+use Rattle.steno_order.proofs.Ranges.{tested}
 use Rattle.steno_order.proofs.Presses.{below_23, false_or_true, Chain, ArePressed-chain, chain-ArePressed, chain-pressed, pressed-chain}
 
 pub not_of : (b : Bool) → not b ≡ true → b ≡ true → ⊥
@@ -104,7 +104,7 @@ Spelling-stroke text code s =
 low_presses : (ps : List Press) → list_all (λ key. nat_lt key 13) (keys_of ps) ≡ true → All (λ p. p.key < 13) ps
 low_presses [] e = λ i d l. absurd (omega arith)
 low_presses (p ∷ ps) e =
-    let two = both (nat_lt p.key 13) (list_all (λ key. nat_lt key 13) (keys_of ps)) e in
+    let two = and_parts (nat_lt p.key 13) (list_all (λ key. nat_lt key 13) (keys_of ps)) e in
     All-cons (λ q. q.key < 13) p ps (ltb-true p.key 13 two.0) (low_presses ps two.1)
 
 whole_back : (body w keys : List ℕ) → parts_between hyphen body ≡ w ∷ [] → pressed 0 1 w ≡ Some keys → Body body keys

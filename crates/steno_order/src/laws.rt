@@ -24,17 +24,24 @@ pub fn canonical_spellings()
 
 /// The same as [`spellings`] for lists; no text spells the empty list, and a text spells none just where a part does.
 pub fn list_spellings()
-    ensures read { (text : List ℕ) (strokes : List ℕ) → SpellingOfAll text strokes ↔ (spelt_strokes text ≡ Some strokes) }
-    ensures one { (text : List ℕ) (a b : List ℕ) → SpellingOfAll text a → SpellingOfAll text b → a ≡ b }
-    ensures strokes { (text : List ℕ) (strokes : List ℕ) → SpellingOfAll text strokes → All IsStroke strokes }
-    ensures parts { (text : List ℕ) (strokes : List ℕ) → SpellingOfAll text strokes → length strokes ≡ length (parts_of text) }
+    ensures read { (text : List ℕ) (strokes : List ℕ) →
+        SpellingOfAll text strokes ↔ (spelt_strokes text ≡ Some strokes) }
+    ensures one { (text : List ℕ) (a b : List ℕ) →
+        SpellingOfAll text a → SpellingOfAll text b → a ≡ b }
+    ensures strokes { (text : List ℕ) (strokes : List ℕ) →
+        SpellingOfAll text strokes → All IsStroke strokes }
+    ensures parts { (text : List ℕ) (strokes : List ℕ) →
+        SpellingOfAll text strokes → length strokes ≡ length (parts_of text) }
     ensures not_empty { (text : List ℕ) → SpellingOfAll text [] → ⊥ }
-    ensures none { (text : List ℕ) → (spelt_strokes text ≡ None) ↔ ((part : ℕ) × (unreadable_part text ≡ Some part)) }
+    ensures none { (text : List ℕ) →
+        (spelt_strokes text ≡ None) ↔ ((part : ℕ) × (unreadable_part text ≡ Some part)) }
 {}
 
 /// The same as [`canonical_spellings`] for lists of one or more strokes; the text of an outline is short enough to be read.
 pub fn canonical_lists()
-    ensures spells { (strokes : List ℕ) → 0 < length strokes → All IsStroke strokes → SpellingOfAll (canonical_text strokes) strokes }
-    ensures back { (strokes : List ℕ) → 0 < length strokes → All IsStroke strokes → spelt_strokes (canonical_text strokes) ≡ Some strokes }
+    ensures spells { (strokes : List ℕ) →
+        0 < length strokes → All IsStroke strokes → SpellingOfAll (canonical_text strokes) strokes }
+    ensures back { (strokes : List ℕ) → 0 < length strokes → All IsStroke strokes →
+        spelt_strokes (canonical_text strokes) ≡ Some strokes }
     ensures short { (x : List ℕ) → length x ≤ most_strokes → length (canonical_text x) < 2 ^ 32 }
 {}

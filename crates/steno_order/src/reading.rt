@@ -34,8 +34,12 @@ struct Part<'a> {
 
 /// Reads the first part of a text, up to a slash or the end. None where this part spells no stroke.
 fn read_part(text: &[u8]) -> Option<Part<'_>>
-    ensures part { MatchOption result ((others : List (Option ℕ)) × (readings text.now ≡ None ∷ others)) (λ part. readings text.now ≡ Some part.stroke ∷ readings_left (option_map (λ rest. rest.now) part.rest)) }
-    ensures shorter { IfSome result (λ part. IfSome part.rest (λ rest. length rest.now < length text.now)) }
+    ensures part { MatchOption result
+        ((others : List (Option ℕ)) × (readings text.now ≡ None ∷ others))
+        (λ part. readings text.now ≡
+        Some part.stroke ∷ readings_left (option_map (λ rest. rest.now) part.rest)) }
+    ensures shorter { IfSome result
+        (λ part. IfSome part.rest (λ rest. length rest.now < length text.now)) }
 {
     let mut pressed = Pressed::NONE;
     for (i, byte) in text.iter().enumerate() {

@@ -40,7 +40,8 @@ pub fn write_stroke(stroke: Stroke, text: &mut String) -> Result<(), AllocError>
 
 /// Appends the strokes' canonical texts with `/` between them. A refusal leaves the string as it was.
 pub fn write_outline(strokes: &[Stroke], text: &mut String) -> Result<(), AllocError>
-    ensures ok { OnOk result (string_bytes text.new ≡ string_bytes text.old ++ canonical_text strokes.now) }
+    ensures ok { OnOk result (string_bytes text.new ≡
+        string_bytes text.old ++ canonical_text strokes.now) }
     ensures err { OnErr result (string_bytes text.new ≡ string_bytes text.old) }
 {
     text.reserve(strokes.len().saturating_mul(LONGEST + 1))?;
@@ -84,7 +85,8 @@ fn append_keys(stroke: Stroke, first: u8, end: u8, text: &mut String) -> Result<
     requires keys { end ≤ 23 }
     requires room { string_len text.old + (end - first) ≤ string_capacity text.old }
     ensures ok { IsOk result }
-    ensures bytes { string_bytes text.new ≡ string_bytes text.old ++ map (mark stroke) (keys_from stroke first (end - first)) }
+    ensures bytes { string_bytes text.new ≡
+        string_bytes text.old ++ map (mark stroke) (keys_from stroke first (end - first)) }
     ensures len { string_len text.new ≤ string_len text.old + (end - first) }
     ensures capacity { string_capacity text.old ≤ string_capacity text.new }
 {
@@ -99,7 +101,8 @@ fn push_if(wanted: bool, character: char, text: &mut String) -> Result<(), Alloc
     requires ascii { character < 128 }
     requires room { string_len text.old + 1 ≤ string_capacity text.old }
     ensures ok { IsOk result }
-    ensures bytes { string_bytes text.new ≡ string_bytes text.old ++ (if wanted then character ∷ [] else []) }
+    ensures bytes { string_bytes text.new ≡
+        string_bytes text.old ++ (if wanted then character ∷ [] else []) }
     ensures len { string_len text.new ≤ string_len text.old + 1 }
     ensures capacity { string_capacity text.old ≤ string_capacity text.new }
 {

@@ -63,7 +63,8 @@ pub(crate) fn advance<L: Ledger>(
 ) -> usize
     requires ends { All (IsEnd trie.now) ends.old.items }
     requires room { length ends.old.items < vec_capacity ends.old }
-    ensures advance { IsAdvance trie.now stroke (ends.old.items ++ Some 0 ∷ []) ends.new.items result }
+    ensures advance { IsAdvance trie.now stroke (ends.old.items ++ Some 0 ∷ [])
+        ends.new.items result }
     ensures capacity { vec_capacity ends.new ≡ vec_capacity ends.old }
     ensures cost { steps.new ≤ steps.old + length ends.old.items + 1 }
 {

@@ -50,7 +50,10 @@ impl Translator<'_> {
     /// A translator to which nothing was pushed. All its memory is taken here: places for the pieces of a window and one
     /// more.
     pub fn new(alloc: Global, trie: &Trie) -> Result<Translator<'_>, AllocError>
-        ensures { IfOk result (λ translator. translator ≡ record { entries = trie.now; strokes = [] }) }
+        ensures { IfOk result (λ translator. translator ≡ record {
+          entries = trie.now;
+          strokes = [];
+        }) }
     {
         let places = trie.longest_entry() as usize + 1;
         Ok(Translator {
@@ -64,8 +67,12 @@ impl Translator<'_> {
     /// One stroke more. At most one look-up for each piece of the window and one for the stroke alone, whatever was pushed
     /// before.
     pub fn push<L: Ledger>(&mut self, stroke: Stroke, steps: &mut Steps<L>) -> Merge
-        ensures stands { self.new ≡ record { entries = self.old.entries; strokes = self.old.strokes ++ stroke ∷ [] } }
-        ensures merge { IsMerge (pieces_of self.old.entries self.old.strokes) (pieces_of self.old.entries (self.old.strokes ++ stroke ∷ [])) result }
+        ensures stands { self.new ≡ record {
+          entries = self.old.entries;
+          strokes = self.old.strokes ++ stroke ∷ [];
+        } }
+        ensures merge { IsMerge (pieces_of self.old.entries self.old.strokes)
+            (pieces_of self.old.entries (self.old.strokes ++ stroke ∷ [])) result }
         ensures cost { steps.new ≤ steps.old + longest_of self.old.entries + 1 }
     {
         let place = advance(&mut self.ends, self.trie, stroke, steps);
@@ -80,7 +87,8 @@ impl Translator<'_> {
 
     /// The pieces of the window of all that was pushed, first one first: all that later strokes can change.
     pub fn pieces(&self) -> &[Piece]
-        ensures { result.now ≡ pieces_of self.now.entries (window self.now.entries self.now.strokes) }
+        ensures { result.now ≡
+            pieces_of self.now.entries (window self.now.entries self.now.strokes) }
     {
         self.pieces.as_slice()
     }

@@ -14,7 +14,8 @@ use stroke::{Piece, Stroke};
 pub fn translate(alloc: Global, trie: &Trie, strokes: &[Stroke]) -> Result<Vec<Piece>, AllocError>
     ensures pieces { IfOk result (λ found. found.items ≡ pieces_of trie.now strokes.now) }
     ensures lengths { IfOk result (λ found. sum_by (λ p. p.len) found.items ≡ length strokes.now) }
-    ensures numbers { IfOk result (λ found. All (λ p. IfSome p.entry (λ e. e < length trie.now)) found.items) }
+    ensures numbers { IfOk result
+        (λ found. All (λ p. IfSome p.entry (λ e. e < length trie.now)) found.items) }
 {
     collect::<Brand>(alloc, trie, strokes, Blank::new(1))
 }

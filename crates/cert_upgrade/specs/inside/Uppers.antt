@@ -1,7 +1,7 @@
 -- What the program knows of the lines above the conflicts, and which lines it makes of them.
 --     upper_failure u n line       why a line behind n others fails, if it does
 --     with_run lines s t d         lines with one more run, which is joined to a last run that goes on in it
---     TakesLine old new line       what is known with one line more
+--     TakesFormLine old new line   what is known with one line more
 --     new_upper before             the lines of the new certificate for these lines of the old one
 --     Knows u before               what is known of the lines that were read
 use Rattle.std.specs.Prelude.{ℕ, ◌+◌, ◌<◌, ◌≤◌, ◌≡◌, List, [], ◌∷◌, ◌++◌, Bool, true, ◌&&◌, ◌||◌, ◌==◌, nat_lt, nat_le, length, map, Option, Some, None, if◌then◌else◌}
@@ -83,7 +83,7 @@ next_after next (of.Run s t d) = t + 1
 next_after next line = next
 
 -- what is known with one line more
-pub record TakesLine (old new : Upper) (line : CertLine) : Type 0 where
+pub record TakesFormLine (old new : Upper) (line : CertLine) : Type 0 where
   pub version : new.version ≡ version_after old.version line
   pub states : new.states ≡ states_after old.states line
   pub next : new.next ≡ next_after old.next line

@@ -1,6 +1,6 @@
 -- What a reader holds of its file.
 --     piece_size                                      how many bytes it holds at most
---     Passes text failed old new before after         what a call that takes bytes does, and what it passes over
+--     PassesOver text failed old new before after     what a call that takes bytes does, and what it passes over
 --     IsReachOf reach left rest                       what is held of the next line
 use Rattle.std.specs.Prelude.{ℕ, ◌+◌, ◌^◌, ◌≤◌, ◌≡◌, List, [], ◌++◌, Bool, false, length, take, Option, IfSome}
 use Rattle.std.specs.Io.KnownBytes.{prepend_known}
@@ -27,7 +27,7 @@ abbrev pub no_pieces : PiecesView
 no_pieces = record { left = []; taken = 0 }
 
 -- bytes were taken, and of what was ahead this text was passed over
-pub record Passes (text : List ℕ) (failed : Bool) (old new : PiecesView) (before after : FilesView) : Type 0 where
+pub record PassesOver (text : List ℕ) (failed : Bool) (old new : PiecesView) (before after : FilesView) : Type 0 where
   pub ahead : prepend_known old.left before.rest ≡ prepend_known (text ++ new.left) after.rest
   -- each byte that is held or was passed over is counted
   pub least : (m : ℕ) → m + length text ≤ 2 ^ 33 → m + length old.left ≤ old.taken → m + length text + length new.left ≤ new.taken

@@ -15,7 +15,7 @@ use Rattle.certificate.specs.CertLines.{line_text, fits}
 use Rattle.certificate.specs.CertReading.{named, if_fits, numbers_of}
 use Rattle.certificate.specs.Readers.{BeginsBad, BeginsLong}
 use Rattle.certificate.specs.inside.Places.{IsPlace}
-use Rattle.certificate.specs.inside.Pieces.{PiecesView, Passes}
+use Rattle.certificate.specs.inside.Pieces.{PiecesView, PassesOver}
 
 -- the row of these numbers and those of the words
 abbrev pub row_with : List ℕ → List (List ℕ) → Option CertLine
@@ -63,9 +63,9 @@ IsSkipped read.End room old new before after = ⊥
 -- the line was passed over, or nothing is ahead, or the next line can't be given
 abbrev pub IsNextLine : Read → ℕ → PiecesView → PiecesView → FilesView → FilesView → Type 0
 IsNextLine (read.Line l len) room old new before after =
-    Passes (line_text l) false old new before after × (fits l ≡ true) × (len ≡ length (line_text l)) × (len ≤ room)
+    PassesOver (line_text l) false old new before after × (fits l ≡ true) × (len ≡ length (line_text l)) × (len ≤ room)
 IsNextLine read.End room old new before after =
-    Passes [] false old new before after × IfSome (prepend_known old.left before.rest) (λ bytes. bytes ≡ [])
+    PassesOver [] false old new before after × IfSome (prepend_known old.left before.rest) (λ bytes. bytes ≡ [])
 IsNextLine read.Bad room old new before after = IfSome (prepend_known old.left before.rest) (BeginsBad room)
 IsNextLine read.Long room old new before after = TakesMore room old new × IfSome (prepend_known old.left before.rest) (BeginsLong room)
 

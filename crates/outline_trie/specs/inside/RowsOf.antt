@@ -3,7 +3,7 @@
 --     rows_at pool blocks indexes         the rows of all nodes
 --     AreRows pool blocks indexes         what the pool, the blocks and the indexes have in common
 use Rattle.std.specs.Prelude.{ℕ, ◌≡◌, ◌<◌, ◌≤◌, [], nat_eq, length, get_or, map, List, if◌then◌else◌}
-use Rattle.edge_pool.specs.Pools.{Extent, Pool, Lists, pairs_of}
+use Rattle.edge_pool.specs.Pools.{Extent, Pool, ListsBlock, pairs_of}
 use Rattle.outline_trie.specs.Tries.{most_nodes}
 use Rattle.outline_trie.specs.inside.Tables.{none_number}
 
@@ -22,5 +22,5 @@ pub record AreRows (pool : Pool) (blocks : List Extent) (indexes : List ℕ) : T
   pub fewer : length blocks ≤ length indexes
   pub known : (node : ℕ) → node < length indexes → (get_or indexes node 0 ≡ none_number → ⊥) → get_or indexes node 0 < length blocks
   pub once : (m n : ℕ) → m < length indexes → n < length indexes → (get_or indexes m 0 ≡ none_number → ⊥) → get_or indexes m 0 ≡ get_or indexes n 0 → m ≡ n
-  pub listed : (index : ℕ) → index < length blocks → Lists pool (get_or blocks index no_block)
+  pub listed : (index : ℕ) → index < length blocks → ListsBlock pool (get_or blocks index no_block)
   pub apart : (i j : ℕ) → i < j → j < length blocks → (get_or blocks i no_block).place ≡ (get_or blocks j no_block).place → ⊥

@@ -43,7 +43,8 @@ fn extend_file(
     name: &str,
     piece: &[u8],
 ) -> Result<(), AllocError>
-    ensures ok { OnOk result (Sets name.now (held_of (kept_in files.old) name.now ++ piece.now) (kept_in files.old) (kept_in files.new)) }
+    ensures ok { let before = kept_in files.old in
+        OnOk result (Sets name.now (held_of before name.now ++ piece.now) before (kept_in files.new)) }
     ensures err { OnErr result (kept_in files.new ≡ kept_in files.old) }
 {
     let Some(bytes) = files.get_mut(name) else {
@@ -99,9 +100,11 @@ impl HeldFiles {
 
     /// Holds a file with these bytes, in the place of one of that name.
     pub(crate) fn add(&mut self, name: &str, bytes: &[u8]) -> Result<(), AllocError>
-        ensures ok { OnOk result (Sets name.now bytes.now (held_view self.old).kept (held_view self.new).kept) }
+        ensures ok { OnOk result
+            (Sets name.now bytes.now (held_view self.old).kept (held_view self.new).kept) }
         ensures err { OnErr result ((held_view self.new).kept ≡ (held_view self.old).kept) }
-        ensures others { held_view self.new ≡ record (held_view self.old) { kept = (held_view self.new).kept } }
+        ensures others { held_view self.new ≡
+            record (held_view self.old) { kept = (held_view self.new).kept } }
     {
         set_file(&mut self.files, self.alloc, name, bytes)
     }
@@ -114,8 +117,14 @@ impl HeldFiles {
 
     /// The file's bytes become the rest. A refusal leaves an empty rest.
     pub(crate) fn open(&mut self, name: &str) -> Result<(), AllocError>
-        ensures ok { OnOk result (held_view self.new ≡ record (held_view self.old) { rest = held_of (held_view self.old).kept name.now; places = record ((held_view self.old).places) { opened = Some name.now } }) }
-        ensures err { OnErr result (held_view self.new ≡ record (held_view self.old) { rest = [] }) }
+        ensures ok { let before = held_view self.old in
+            let after = held_view self.new in
+            OnOk result (after ≡ record before {
+              rest = held_of before.kept name.now;
+              places = record before.places { opened = Some name.now };
+            }) }
+        ensures err { OnErr result
+            (held_view self.new ≡ record (held_view self.old) { rest = [] }) }
     {
         self.rest.clear();
         self.at = 0;
@@ -129,9 +138,11 @@ impl HeldFiles {
 
     /// Moves the first bytes of the rest to the front of the slice.
     pub(crate) fn take(&mut self, into: &mut [u8]) -> usize
-        ensures leaves { held_view self.new ≡ record (held_view self.old) { rest = (held_view self.new).rest } }
+        ensures leaves { held_view self.new ≡
+            record (held_view self.old) { rest = (held_view self.new).rest } }
         ensures bound { result ≤ length into.new }
-        ensures moved { (held_view self.old).rest ≡ take result into.new ++ (held_view self.new).rest }
+        ensures moved { (held_view self.old).rest ≡
+            take result into.new ++ (held_view self.new).rest }
         ensures end { result ≡ 0 → 0 < length into.new → (held_view self.old).rest ≡ [] }
         ensures all { result ≡ min (length into.new) (length (held_view self.old).rest) }
     {
@@ -143,10 +154,23 @@ impl HeldFiles {
 
     /// The file becomes empty and is being written. After a refusal none is, and all are as they were. The rest becomes empty.
     pub(crate) fn begin(&mut self, name: &str) -> Result<(), AllocError>
-        ensures ok { OnOk result (Sets name.now [] (held_view self.old).kept (held_view self.new).kept) }
+        ensures ok { OnOk result
+            (Sets name.now [] (held_view self.old).kept (held_view self.new).kept) }
         ensures err { OnErr result ((held_view self.new).kept ≡ (held_view self.old).kept) }
-        ensures ok_others { OnOk result (held_view self.new ≡ record (held_view self.old) { kept = (held_view self.new).kept; rest = []; places = record ((held_view self.old).places) { writing = Some name.now } }) }
-        ensures err_others { OnErr result (held_view self.new ≡ record (held_view self.old) { kept = (held_view self.new).kept; rest = []; places = record ((held_view self.old).places) { writing = None } }) }
+        ensures ok_others { let before = held_view self.old in
+            let after = held_view self.new in
+            OnOk result (after ≡ record before {
+              kept = after.kept;
+              rest = [];
+              places = record before.places { writing = Some name.now };
+            }) }
+        ensures err_others { let before = held_view self.old in
+            let after = held_view self.new in
+            OnErr result (after ≡ record before {
+              kept = after.kept;
+              rest = [];
+              places = record before.places { writing = None };
+            }) }
     {
         self.rest.clear();
         self.at = 0;
@@ -161,9 +185,13 @@ impl HeldFiles {
     /// Adds the bytes to the file that is being written.
     pub(crate) fn put(&mut self, piece: &[u8]) -> Result<(), AllocError>
         requires { IsSome (held_view self.old).places.writing }
-        ensures ok { OnOk result (IfSome (held_view self.old).places.writing (λ name. Sets name (held_of (held_view self.old).kept name ++ piece.now) (held_view self.old).kept (held_view self.new).kept)) }
+        ensures ok { let before = held_view self.old in
+            let after = held_view self.new in
+            OnOk result (IfSome before.places.writing (λ name.
+            Sets name (held_of before.kept name ++ piece.now) before.kept after.kept)) }
         ensures err { OnErr result ((held_view self.new).kept ≡ (held_view self.old).kept) }
-        ensures others { held_view self.new ≡ record (held_view self.old) { kept = (held_view self.new).kept } }
+        ensures others { held_view self.new ≡
+            record (held_view self.old) { kept = (held_view self.new).kept } }
     {
         extend_file(
             &mut self.files,
@@ -175,7 +203,9 @@ impl HeldFiles {
 
     /// Afterwards no file is being written.
     pub(crate) fn end(&mut self)
-        ensures { held_view self.new ≡ record (held_view self.old) { places = record ((held_view self.old).places) { writing = None } } }
+        ensures { held_view self.new ≡ record (held_view self.old) {
+          places = record ((held_view self.old).places) { writing = None };
+        } }
     {
         self.places.end();
     }
@@ -197,8 +227,18 @@ impl HeldFiles {
     /// is counted. A refusal leaves an empty rest.
     pub(crate) fn fail_to_open(&mut self, name: &str) -> Result<(), AllocError>
         ensures later { (held_view self.old).places.faults ≤ (held_view self.new).places.faults }
-        ensures ok { OnOk result (held_view self.new ≡ record (held_view self.old) { rest = []; places = record ((held_view self.old).places) { opened = Some name.now; latest = Some (name.now, Way.Reading); faults = raised (held_view self.old).places.faults } }) }
-        ensures err { OnErr result (held_view self.new ≡ record (held_view self.old) { rest = [] }) }
+        ensures ok { let before = held_view self.old in
+            let after = held_view self.new in
+            OnOk result (after ≡ record before {
+              rest = [];
+              places = record before.places {
+                opened = Some name.now;
+                latest = Some (name.now, Way.Reading);
+                faults = raised before.places.faults;
+              };
+            }) }
+        ensures err { OnErr result
+            (held_view self.new ≡ record (held_view self.old) { rest = [] }) }
     {
         self.rest.clear();
         self.at = 0;
@@ -211,8 +251,22 @@ impl HeldFiles {
     /// at the name. After a refusal only that isn't.
     pub(crate) fn fail_to_begin(&mut self, name: &str) -> Result<(), AllocError>
         ensures later { (held_view self.old).places.faults ≤ (held_view self.new).places.faults }
-        ensures ok { OnOk result (held_view self.new ≡ record (held_view self.old) { rest = []; places = record ((held_view self.old).places) { writing = None; latest = Some (name.now, Way.Writing); faults = raised (held_view self.old).places.faults } }) }
-        ensures err { OnErr result (held_view self.new ≡ record (held_view self.old) { rest = []; places = record ((held_view self.old).places) { writing = None } }) }
+        ensures ok { let before = held_view self.old in
+            let after = held_view self.new in
+            OnOk result (after ≡ record before {
+              rest = [];
+              places = record before.places {
+                writing = None;
+                latest = Some (name.now, Way.Writing);
+                faults = raised before.places.faults;
+              };
+            }) }
+        ensures err { let before = held_view self.old in
+            let after = held_view self.new in
+            OnErr result (after ≡ record before {
+              rest = [];
+              places = record before.places { writing = None };
+            }) }
     {
         self.rest.clear();
         self.at = 0;
@@ -225,7 +279,14 @@ impl HeldFiles {
     /// Counts a fault on reading the name last opened.
     pub(crate) fn note_reading(&mut self)
         ensures later { (held_view self.old).places.faults ≤ (held_view self.new).places.faults }
-        ensures noted { held_view self.new ≡ record (held_view self.old) { places = record ((held_view self.old).places) { latest = option_map (λ name. (name, Way.Reading)) (held_view self.old).places.opened; faults = raised (held_view self.old).places.faults } } }
+        ensures noted { let before = held_view self.old in
+            let after = held_view self.new in
+            after ≡ record before {
+              places = record before.places {
+                latest = option_map (λ name. (name, Way.Reading)) before.places.opened;
+                faults = raised before.places.faults;
+              };
+            } }
     {
         self.places.note_reading();
     }
@@ -233,7 +294,14 @@ impl HeldFiles {
     /// Counts a fault on writing the name that is being written.
     pub(crate) fn note_writing(&mut self)
         ensures later { (held_view self.old).places.faults ≤ (held_view self.new).places.faults }
-        ensures noted { held_view self.new ≡ record (held_view self.old) { places = record ((held_view self.old).places) { latest = option_map (λ name. (name, Way.Writing)) (held_view self.old).places.writing; faults = raised (held_view self.old).places.faults } } }
+        ensures noted { let before = held_view self.old in
+            let after = held_view self.new in
+            after ≡ record before {
+              places = record before.places {
+                latest = option_map (λ name. (name, Way.Writing)) before.places.writing;
+                faults = raised before.places.faults;
+              };
+            } }
     {
         self.places.note_writing();
     }

@@ -38,7 +38,8 @@ impl MemFiles {
     pub fn add(&mut self, name: &str, bytes: &[u8]) -> Result<(), AllocError>
         ensures ok { OnOk result (Sets name.now bytes.now (mem_kept self.old) (mem_kept self.new)) }
         ensures err { OnErr result (mem_kept self.new ≡ mem_kept self.old) }
-        ensures view { mem_view self.new ≡ record (mem_view self.old) { held = Some (held_of (mem_kept self.new)) } }
+        ensures view { mem_view self.new ≡
+            record (mem_view self.old) { held = Some (held_of (mem_kept self.new)) } }
         ensures script { mem_script self.new ≡ mem_script self.old }
     {
         self.files.add(name, bytes)
@@ -50,7 +51,8 @@ impl MemFiles {
     pub fn fail_at(&mut self, calls: Vec<u64>)
         ensures kept { mem_kept self.new ≡ mem_kept self.old }
         ensures view { mem_view self.new ≡ mem_view self.old }
-        ensures script { mem_script self.new ≡ record (mem_script self.old) { failing = calls.items } }
+        ensures script { mem_script self.new ≡
+            record (mem_script self.old) { failing = calls.items } }
     {
         self.script.fail_at(calls);
     }
@@ -73,15 +75,21 @@ impl Files for MemFiles {
     fn open_file(&mut self, name: &str) -> Result<(), OutsideFault>
         ensures held { (mem_view self.new).held ≡ (mem_view self.old).held }
         ensures writing { (mem_view self.new).writing ≡ (mem_view self.old).writing }
-        ensures rest { (mem_view self.new).rest ≡ option_map (λ files. if is_ok result then files name.now else []) (mem_view self.old).held }
-        ensures opened { (mem_view self.new).opened ≡ (if is_memory result then (mem_view self.old).opened else Some name.now) }
-        ensures latest { (mem_view self.new).latest ≡ (if is_failed result then Some (name.now, Way.Reading) else (mem_view self.old).latest) }
+        ensures rest { (mem_view self.new).rest ≡ option_map (λ files. if is_ok result
+            then files name.now else []) (mem_view self.old).held }
+        ensures opened { (mem_view self.new).opened ≡
+            (if is_memory result then (mem_view self.old).opened else Some name.now) }
+        ensures latest { (mem_view self.new).latest ≡ (if is_failed result
+            then Some (name.now, Way.Reading) else (mem_view self.old).latest) }
         ensures later { (mem_view self.old).faults ≤ (mem_view self.new).faults }
-        ensures failed { IsTrue (is_failed result) → Rose (mem_view self.old).faults (mem_view self.new).faults }
-        ensures steady { Steady (is_failed result) (mem_view self.old).faults (mem_view self.new).faults }
+        ensures failed { IsTrue (is_failed result) →
+            Rose (mem_view self.old).faults (mem_view self.new).faults }
+        ensures steady { Steady (is_failed result)
+            (mem_view self.old).faults (mem_view self.new).faults }
         ensures kept { mem_kept self.new ≡ mem_kept self.old }
         ensures script { mem_script self.new ≡ counted (mem_script self.old) }
-        ensures due { AsDue (is_listed (mem_script self.old) || is_none (mem_kept self.old name.now)) result }
+        ensures due { AsDue (is_listed (mem_script self.old)
+            || is_none (mem_kept self.old name.now)) result }
     {
         if self.script.fails() || !self.files.holds(name) {
             self.files.fail_to_open(name)?;
@@ -93,18 +101,26 @@ impl Files for MemFiles {
     fn take(&mut self, into: &mut [u8]) -> Result<usize, Failed>
         ensures leaves { LeavesAll (mem_view self.old) (mem_view self.new) }
         ensures bound { IfOk result (λ n. n ≤ length into.new) }
-        ensures moved { IfOk result (λ n. (mem_view self.old).rest ≡ prepend_known (take n into.new) (mem_view self.new).rest) }
-        ensures end { IfOk result (λ n. n ≡ 0 → 0 < length into.new → IfSome (mem_view self.old).rest (λ rest. rest ≡ [])) }
+        ensures moved { IfOk result (λ n. (mem_view self.old).rest ≡
+            prepend_known (take n into.new) (mem_view self.new).rest) }
+        ensures end { IfOk result (λ n. n ≡ 0 → 0 < length into.new →
+            IfSome (mem_view self.old).rest (λ rest. rest ≡ [])) }
         ensures refused { OnErr result ((mem_view self.new).rest ≡ (mem_view self.old).rest) }
         ensures has_name { OnErr result (IsSome (mem_view self.old).opened) }
-        ensures latest { (mem_view self.new).latest ≡ (if is_err result then option_map (λ name. (name, Way.Reading)) (mem_view self.old).opened else (mem_view self.old).latest) }
+        ensures latest { let before = mem_view self.old in
+            let after = mem_view self.new in
+            after.latest ≡ (if is_err result
+            then option_map (λ name. (name, Way.Reading)) before.opened else before.latest) }
         ensures later { (mem_view self.old).faults ≤ (mem_view self.new).faults }
         ensures failed { OnErr result (Rose (mem_view self.old).faults (mem_view self.new).faults) }
-        ensures steady { Steady (is_err result) (mem_view self.old).faults (mem_view self.new).faults }
-        ensures all { IfOk result (λ n. IfSome (mem_view self.old).rest (λ rest. n ≡ min (length into.new) (length rest))) }
+        ensures steady { Steady (is_err result)
+            (mem_view self.old).faults (mem_view self.new).faults }
+        ensures all { IfOk result (λ n.
+            IfSome (mem_view self.old).rest (λ rest. n ≡ min (length into.new) (length rest))) }
         ensures kept { mem_kept self.new ≡ mem_kept self.old }
         ensures script { mem_script self.new ≡ counted (mem_script self.old) }
-        ensures due { is_err result ≡ (is_listed (mem_script self.old) && is_some (mem_view self.old).opened) }
+        ensures due { is_err result ≡
+            (is_listed (mem_script self.old) && is_some (mem_view self.old).opened) }
     {
         if self.script.fails() && self.files.has_opened() {
             self.files.note_reading();
@@ -114,15 +130,20 @@ impl Files for MemFiles {
     }
 
     fn begin(&mut self, name: &str) -> Result<(), OutsideFault>
-        ensures emptied { OnOk result (Both (Replaces name.now []) (mem_view self.old).held (mem_view self.new).held) }
+        ensures emptied { OnOk result
+            (Both (Replaces name.now []) (mem_view self.old).held (mem_view self.new).held) }
         ensures refused { OnErr result ((mem_view self.new).held ≡ (mem_view self.old).held) }
-        ensures writing { (mem_view self.new).writing ≡ (if is_ok result then Some name.now else None) }
+        ensures writing { (mem_view self.new).writing ≡
+            (if is_ok result then Some name.now else None) }
         ensures opened { (mem_view self.new).opened ≡ (mem_view self.old).opened }
         ensures rest { (mem_view self.new).rest ≡ option_map (λ _. []) (mem_view self.old).held }
-        ensures latest { (mem_view self.new).latest ≡ (if is_failed result then Some (name.now, Way.Writing) else (mem_view self.old).latest) }
+        ensures latest { (mem_view self.new).latest ≡ (if is_failed result
+            then Some (name.now, Way.Writing) else (mem_view self.old).latest) }
         ensures later { (mem_view self.old).faults ≤ (mem_view self.new).faults }
-        ensures failed { IsTrue (is_failed result) → Rose (mem_view self.old).faults (mem_view self.new).faults }
-        ensures steady { Steady (is_failed result) (mem_view self.old).faults (mem_view self.new).faults }
+        ensures failed { IsTrue (is_failed result) →
+            Rose (mem_view self.old).faults (mem_view self.new).faults }
+        ensures steady { Steady (is_failed result)
+            (mem_view self.old).faults (mem_view self.new).faults }
         ensures begun { OnOk result (Sets name.now [] (mem_kept self.old) (mem_kept self.new)) }
         ensures kept { OnErr result (mem_kept self.new ≡ mem_kept self.old) }
         ensures script { mem_script self.new ≡ counted (mem_script self.old) }
@@ -140,15 +161,25 @@ impl Files for MemFiles {
         requires has_bytes { 0 < length piece.now }
         ensures taken { IfOk result (λ n. n ≤ length piece.now) }
         ensures some { IfOk result (λ n. 0 < n) }
-        ensures added { IfOk result (λ n. IfSome (mem_view self.old).writing (λ name. Both (Extends name (take n piece.now)) (mem_view self.old).held (mem_view self.new).held)) }
+        ensures added { let before = mem_view self.old in
+            let after = mem_view self.new in
+            IfOk result (λ n. IfSome before.writing
+            (λ name. Both (Extends name (take n piece.now)) before.held after.held)) }
         ensures refused { OnErr result ((mem_view self.new).held ≡ (mem_view self.old).held) }
         ensures writing { (mem_view self.new).writing ≡ (mem_view self.old).writing }
         ensures opened { (mem_view self.new).opened ≡ (mem_view self.old).opened }
-        ensures latest { (mem_view self.new).latest ≡ (if is_failed result then option_map (λ name. (name, Way.Writing)) (mem_view self.old).writing else (mem_view self.old).latest) }
+        ensures latest { let before = mem_view self.old in
+            let after = mem_view self.new in
+            after.latest ≡ (if is_failed result
+            then option_map (λ name. (name, Way.Writing)) before.writing else before.latest) }
         ensures later { (mem_view self.old).faults ≤ (mem_view self.new).faults }
-        ensures failed { IsTrue (is_failed result) → Rose (mem_view self.old).faults (mem_view self.new).faults }
-        ensures steady { Steady (is_failed result) (mem_view self.old).faults (mem_view self.new).faults }
-        ensures grown { IfOk result (λ n. IfSome (mem_view self.old).writing (λ name. Sets name (held_of (mem_kept self.old) name ++ take n piece.now) (mem_kept self.old) (mem_kept self.new))) }
+        ensures failed { IsTrue (is_failed result) →
+            Rose (mem_view self.old).faults (mem_view self.new).faults }
+        ensures steady { Steady (is_failed result)
+            (mem_view self.old).faults (mem_view self.new).faults }
+        ensures grown { let kept = mem_kept self.old in
+            IfOk result (λ n. IfSome (mem_view self.old).writing (λ name.
+            Sets name (held_of kept name ++ take n piece.now) kept (mem_kept self.new))) }
         ensures all { IfOk result (λ n. n ≡ length piece.now) }
         ensures kept { OnErr result (mem_kept self.new ≡ mem_kept self.old) }
         ensures script { mem_script self.new ≡ counted (mem_script self.old) }
@@ -167,10 +198,14 @@ impl Files for MemFiles {
         ensures held { (mem_view self.new).held ≡ (mem_view self.old).held }
         ensures writing { (mem_view self.new).writing ≡ None }
         ensures opened { (mem_view self.new).opened ≡ (mem_view self.old).opened }
-        ensures latest { (mem_view self.new).latest ≡ (if is_err result then option_map (λ name. (name, Way.Writing)) (mem_view self.old).writing else (mem_view self.old).latest) }
+        ensures latest { let before = mem_view self.old in
+            let after = mem_view self.new in
+            after.latest ≡ (if is_err result
+            then option_map (λ name. (name, Way.Writing)) before.writing else before.latest) }
         ensures later { (mem_view self.old).faults ≤ (mem_view self.new).faults }
         ensures failed { OnErr result (Rose (mem_view self.old).faults (mem_view self.new).faults) }
-        ensures steady { Steady (is_err result) (mem_view self.old).faults (mem_view self.new).faults }
+        ensures steady { Steady (is_err result)
+            (mem_view self.old).faults (mem_view self.new).faults }
         ensures kept { mem_kept self.new ≡ mem_kept self.old }
         ensures script { mem_script self.new ≡ counted (mem_script self.old) }
         ensures due { is_err result ≡ is_listed (mem_script self.old) }

@@ -42,7 +42,8 @@ impl MemSink {
     /// The calls of [`Sink`] with these numbers fail, in the place of those listed before. The first call has the number 0,
     /// and calls made before this one are counted too. Each call looks through the list.
     pub fn fail_at(&mut self, calls: Vec<u64>)
-        ensures { self.new ≡ record self.old { script = record self.old.script { failing = calls.items } } }
+        ensures { self.new ≡
+            record self.old { script = record self.old.script { failing = calls.items } } }
     {
         self.script.fail_at(calls);
     }
@@ -68,7 +69,8 @@ impl Sink for MemSink {
         requires { 0 < length piece.now }
         ensures taken { IfOk result (λ n. n ≤ length piece.now) }
         ensures some { IfOk result (λ n. 0 < n) }
-        ensures appends { IfOk result (λ n. Some self.new.text ≡ append_known (Some self.old.text) (take n piece.now)) }
+        ensures appends { IfOk result (λ n. Some self.new.text ≡
+            append_known (Some self.old.text) (take n piece.now)) }
         ensures refused { OnErr result (Some self.new.text ≡ Some self.old.text) }
         ensures later { self.old.faults ≤ self.new.faults }
         ensures failed { IsTrue (is_failed result) → Rose self.old.faults self.new.faults }

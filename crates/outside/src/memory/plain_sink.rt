@@ -52,7 +52,8 @@ impl Sink for PlainSink {
         requires { 0 < length piece.now }
         ensures taken { IfOk result (λ n. n ≤ length piece.now) }
         ensures some { IfOk result (λ n. 0 < n) }
-        ensures appends { IfOk result (λ n. Some self.new ≡ append_known (Some self.old) (take n piece.now)) }
+        ensures appends { IfOk result (λ n. Some self.new ≡
+            append_known (Some self.old) (take n piece.now)) }
         ensures refused { OnErr result (Some self.new ≡ Some self.old) }
         ensures later { 0 ≤ 0 }
         ensures failed { IsTrue (is_failed result) → Rose 0 0 }

@@ -13,7 +13,7 @@ pub record IsFound (origin : ℕ) (lists : List (List ℕ)) (k s w : ℕ) : Type
   pub word : w ≡ moved k p
 
 -- in round k each settled word is near, far or found, and no move that was made could lower a settled word further
-pub record IsWithin (origin : ℕ) (lists : List (List ℕ)) (k : ℕ) (words : List ℕ) (todo : ℕ → ℕ → Type 0) : Type 0 where
+pub record IsWithinRound (origin : ℕ) (lists : List (List ℕ)) (k : ℕ) (words : List ℕ) (todo : ℕ → ℕ → Type 0) : Type 0 where
   pub count : length words ≡ length lists
   pub each : (s : ℕ) → s < length lists → IsNear origin lists k s (slice_index words s) ⊎ IsFar origin lists k s (slice_index words s) ⊎ IsFound origin lists k s (slice_index words s)
   pub done : (p t : ℕ) → t < length lists → IsBest origin lists p k → HasTarget lists p t → todo p t ⊎ (slice_index words t ≤ moved k p)
@@ -24,7 +24,7 @@ IsOfRound k w = ((k + 1) * word_half ≤ w) × (w ≢ unreached)
 
 -- the same, and the noted numbers are those whose settled words this round put
 pub record IsNoting (origin : ℕ) (lists : List (List ℕ)) (k : ℕ) (words noted : List ℕ) (todo : ℕ → ℕ → Type 0) : Type 0 where
-  pub within : IsWithin origin lists k words todo
+  pub within : IsWithinRound origin lists k words todo
   pub fresh : (s : ℕ) → Has noted s → (s < length lists) × IsOfRound k (slice_index words s)
   pub all : (s : ℕ) → s < length lists → IsOfRound k (slice_index words s) → Has noted s
 

@@ -76,7 +76,7 @@ pub record Same (m n : CrewMember) : Type 0 where
   pub thieves : SameThieves m.thieves.items n.thieves.items
 
 -- a worker that isn't short of memory wasn't before, has made each move of each batch that it took more, and counted them
-pub record Made (t : TableView) (k : ℕ) (frontier : List ℕ) (m n : CrewMember) : Type 0 where
+pub record MadeMoves (t : TableView) (k : ℕ) (frontier : List ℕ) (m n : CrewMember) : Type 0 where
   pub ample : m.short ≡ false
   pub worked : (b : ℕ) → Took n b → Took m b ⊎ Worked t k n.pass.seen n.notes.items (batch_states_of frontier b)
   pub counted : n.moves + taken_by (batch_moves t.lists frontier) m ≡ m.moves + taken_by (batch_moves t.lists frontier) n
@@ -86,7 +86,7 @@ pub record Works (t : TableView) (k : ℕ) (frontier : List ℕ) (m n : CrewMemb
   pub same : Same m n
   pub pass : IsLegalPass t n.pass
   pub adds : AddsFound t k frontier m.pass.seen n.pass.seen m.notes.items n.notes.items
-  pub made : n.short ≡ false → Made t k frontier m n
+  pub made : n.short ≡ false → MadeMoves t k frontier m n
 
 -- the worker had its turn, after which its deque is empty where no thief is out
 pub record Turned (t : TableView) (k : ℕ) (frontier : List ℕ) (m n : CrewMember) : Type 0 where

@@ -50,5 +50,5 @@ abbrev pub IsLegalPass : TableView → PassView → Type 0
 IsLegalPass t p = (p.table ≡ t) × IsLegal t.origin t.lists p.seen
 
 -- the pass is the table's still, has seen no less, and its history is legal
-abbrev pub Goes : TableView → PassView → PassView → Type 0
-Goes t p q = (q.table ≡ t) × IsSamePass p q × IsPrefix p.seen q.seen × IsLegal t.origin t.lists q.seen
+abbrev pub IsLaterPass : TableView → PassView → PassView → Type 0
+IsLaterPass t p q = (q.table ≡ t) × IsSamePass p q × IsPrefix p.seen q.seen × IsLegal t.origin t.lists q.seen

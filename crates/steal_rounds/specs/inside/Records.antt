@@ -29,7 +29,7 @@ AreHeld v w crew =
     (ids : List DequeId) × ((a : ℕ) (m : CrewMember) → slice_get crew a ≡ Some m → Holds (length crew) ids v w a m)
 
 -- the same worker's record, whose tools alone may have changed hands
-pub record Keeps (m n : CrewMember) : Type 0 where
+pub record KeepsRecord (m n : CrewMember) : Type 0 where
   pub worker : n.worker ≡ m.worker
   pub pass : n.pass ≡ m.pass
   pub notes : n.notes ≡ m.notes
@@ -40,7 +40,7 @@ pub record Keeps (m n : CrewMember) : Type 0 where
 -- what was taken changed hands alone
 pub record AreReturned (old new : List CrewMember) : Type 0 where
   pub count : length new ≡ length old
-  pub each : (a : ℕ) (n : CrewMember) → slice_get new a ≡ Some n → (m : CrewMember) × (slice_get old a ≡ Some m) × Keeps m n
+  pub each : (a : ℕ) (n : CrewMember) → slice_get new a ≡ Some n → (m : CrewMember) × (slice_get old a ≡ Some m) × KeepsRecord m n
   pub from : (a b : ℕ) (n : CrewMember) → slice_get new a ≡ Some n → Took n b → (c : ℕ) × (m : CrewMember) × (slice_get old c ≡ Some m) × Took m b
   pub taken : (f : ℕ → ℕ) → sum_by (λ (m : CrewMember). taken_by f m) new ≡ sum_by (λ (m : CrewMember). taken_by f m) old
   pub offered : (f : ℕ → ℕ) → sum_by (λ (m : CrewMember). sum_by f m.deque.offered) new ≡ sum_by (λ (m : CrewMember). sum_by f m.deque.offered) old

@@ -1,5 +1,5 @@
 use Rattle.std.proofs.Common.{refl}
-use Rattle.cert_upgrade.specs.inside.Puts.{lines_text}
+use Rattle.audit_certificate.specs.Written.{lines_text}
 use Rattle.cert_upgrade.proofs.AddedLines.{cut_failed}
 use Rattle.cert_upgrade.proofs.writing.write.Goals as goal
 

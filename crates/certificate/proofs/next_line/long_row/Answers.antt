@@ -3,7 +3,7 @@ use Rattle.std.specs.Prelude.{codes}
 use Rattle.std.proofs.lemmas.List.{length-take, length-take-le}
 use Rattle.std.proofs.lemmas.Result.{err_from_is_err_and}
 use Rattle.text_rules.specs.Lines.{parts_between}
-use Rattle.certificate.specs.inside.Pieces.{Passes}
+use Rattle.certificate.specs.inside.Pieces.{PassesOver}
 use Rattle.certificate.specs.inside.Reads.{IsRowPiece, row_with}
 use Rattle.certificate.proofs.LongRows.{IsRowSoFar, row_begins, row_given_up, row_goes_on}
 use Rattle.certificate.proofs.Passing.{counts_on, passes_none, passes_on, passes_over, takes_same, takes_then}
@@ -20,7 +20,7 @@ loop-body-init g c =
     record {
       text = codes "r ";
       passes =
-          subst (λ xs. Passes xs false pieces c.pass.new.self files files) c.requires.row
+          subst (λ xs. PassesOver xs false pieces c.pass.new.self files files) c.requires.row
           (passes_over [] 2 false pieces pieces c.pass.new.self files files (omega arith) c.pass.ensures (passes_none false pieces files files refl (takes_same files)));
       so_far = record { plain = refl; len = refl; within = let some = c.requires.some in omega arith };
       some = omega arith;

@@ -1,11 +1,11 @@
 use Rattle.std.proofs.Common.{length}
-use Rattle.steal_rounds.specs.inside.Moves.{Goes}
+use Rattle.steal_rounds.specs.inside.Moves.{IsLaterPass}
 use Rattle.steal_rounds.proofs.Gathers.{Gathered}
 use Rattle.steal_rounds.proofs.gather.join_all.Given as goal
 
 abbrev pub invariant-loop-member : goal.invariant-loop-member
 invariant-loop-member g l = record {
-  goes : Goes l.table l.initial.pass l.pass;
+  goes : IsLaterPass l.table l.initial.pass l.pass;
   gathered : Gathered l.initial.crew.items l.crew.items l.pass.seen;
 }
 

@@ -2,7 +2,7 @@ use Rattle.std.proofs.Common.{rules, ◌≡◌, ◌+◌, ◌*◌, ◌≤◌, Lis
 use Rattle.dist_table.specs.Tables.{PassView}
 use Rattle.steal_rounds.specs.declared.member.CrewMember.{CrewMember}
 use Rattle.steal_rounds.specs.inside.Lists.{Each}
-use Rattle.steal_rounds.specs.inside.Moves.{Goes}
+use Rattle.steal_rounds.specs.inside.Moves.{IsLaterPass}
 use Rattle.round_core.specs.inside.InRounds.{moves_of}
 use Rattle.steal_rounds.specs.inside.Crews.{Turned}
 use Rattle.steal_rounds.specs.inside.Fronts.{IsWorked}
@@ -49,7 +49,7 @@ returns-clause-worked g c =
     let ret = subst (λ (l : List CrewMember). AreReturned l xs2) all c.take_back_all.ensures.same in
     let made = c.in_ok-crew.ensures.made in
     let p = c.args.pass.now in let q = c.join_all.new.pass in
-    let goes = subst (λ (x : PassView). Goes t x q) c.in_ok-crew.ensures.same c.join_all.ensures.pass in
+    let goes = subst (λ (x : PassView). IsLaterPass t x q) c.in_ok-crew.ensures.same c.join_all.ensures.pass in
     let covers : length front ≤ 64 * ((length front + 63) / 64) = omega arith in
     let col = subst (λ (l : List CrewMember). IfOk c.collect-found.result (λ r. AreCollected l r.0.items r.1)) c.as_slice.ensures.value c.collect-found.ensures in
     ok_map (λ r. AreCollected xs3 r.0.items r.1) (λ r. IsWorked t k front p.seen q.seen r.0.items) c.collect-found.result
@@ -67,7 +67,7 @@ returns-clause-counted g c =
     let ret = subst (λ (l : List CrewMember). AreReturned l xs2) all c.take_back_all.ensures.same in
     let made = c.in_ok-crew.ensures.made in
     let p = c.args.pass.now in let q = c.join_all.new.pass in
-    let goes = subst (λ (x : PassView). Goes t x q) c.in_ok-crew.ensures.same c.join_all.ensures.pass in
+    let goes = subst (λ (x : PassView). IsLaterPass t x q) c.in_ok-crew.ensures.same c.join_all.ensures.pass in
     let covers : length front ≤ 64 * ((length front + 63) / 64) = omega arith in
     let col = subst (λ (l : List CrewMember). IfOk c.collect-found.result (λ r. AreCollected l r.0.items r.1)) c.as_slice.ensures.value c.collect-found.ensures in
     ok_map (λ r. AreCollected xs3 r.0.items r.1) (λ r. r.1 ≡ moves_of t.lists front) c.collect-found.result

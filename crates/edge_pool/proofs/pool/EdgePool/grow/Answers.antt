@@ -3,7 +3,7 @@ use Rattle.std.specs.FinMap as map
 use Rattle.edge_pool.proofs.ListedLemmas.{listed_from, longer_len}
 use Rattle.std.proofs.Common.{refl, sym, ap, subst, ◌∙◌}
 use Rattle.edge_pool.specs.Classes.{class_of}
-use Rattle.edge_pool.specs.Pools.{Lists, given}
+use Rattle.edge_pool.specs.Pools.{ListsBlock, given}
 use Rattle.edge_pool.proofs.PoolLemmas.{listed}
 use Rattle.edge_pool.proofs.LoopLemmas.{grow_apart, grow_from, grow_to, grow_give, with_front, grown_elsewhere, grown_live, grown_live}
 use Rattle.edge_pool.proofs.pool.EdgePool.grow.Goals as goal
@@ -15,18 +15,18 @@ class_of_len-requires-2 c =
 
 pub copy_front-requires-clause-from : goal.copy_front-requires-clause-from
 copy_front-requires-clause-from c =
-    subst (λ p. Lists p c.args.block) (sym c.in-Ok.ensures.taken) (grow_from c.args.self.now c.args.block c.in-Ok.longer c.args.len c.requires.listed c.in-Ok.ensures.fresh c.in-Ok.ensures.len)
+    subst (λ p. ListsBlock p c.args.block) (sym c.in-Ok.ensures.taken) (grow_from c.args.self.now c.args.block c.in-Ok.longer c.args.len c.requires.listed c.in-Ok.ensures.fresh c.in-Ok.ensures.len)
 
 pub copy_front-requires-clause-to : goal.copy_front-requires-clause-to
 copy_front-requires-clause-to c =
-    subst (λ p. Lists p c.in-Ok.longer) (sym c.in-Ok.ensures.taken) (grow_to c.args.self.now c.args.block c.in-Ok.longer c.args.len c.requires.listed c.in-Ok.ensures.fresh c.in-Ok.ensures.len)
+    subst (λ p. ListsBlock p c.in-Ok.longer) (sym c.in-Ok.ensures.taken) (grow_to c.args.self.now c.args.block c.in-Ok.longer c.args.len c.requires.listed c.in-Ok.ensures.fresh c.in-Ok.ensures.len)
 
 pub copy_front-requires-clause-apart : goal.copy_front-requires-clause-apart
 copy_front-requires-clause-apart c = grow_apart c.args.self.now c.args.block c.in-Ok.longer c.args.len c.requires.listed c.in-Ok.ensures.fresh c.in-Ok.ensures.len
 
 pub give-requires : goal.give-requires
 give-requires c =
-    subst (λ p. Lists p c.args.block) (sym (c.copy_front.ensures ∙ ap (λ p. with_front p c.args.block c.in-Ok.longer) c.in-Ok.ensures.taken))
+    subst (λ p. ListsBlock p c.args.block) (sym (c.copy_front.ensures ∙ ap (λ p. with_front p c.args.block c.in-Ok.longer) c.in-Ok.ensures.taken))
     (grow_give c.args.self.now c.args.block c.in-Ok.longer c.args.len c.requires.listed c.in-Ok.ensures.fresh c.in-Ok.ensures.len)
 
 pub returns-in-Ok-clause-grown : goal.returns-in-Ok-clause-grown

@@ -1,5 +1,5 @@
 use Rattle.std.proofs.Common.{sym, subst, arith}
-use Rattle.edge_pool.specs.Pools.{Lists}
+use Rattle.edge_pool.specs.Pools.{ListsBlock}
 use Rattle.outline_trie.proofs.RowLemmas.{seen_inside, index_below, block_is, block_listed, some_index}
 use Rattle.outline_trie.proofs.rows.Rows.row.Goals as goal
 
@@ -15,4 +15,4 @@ pub cells-requires : goal.cells-requires
 cells-requires c =
     let some = some_index c.self.inside.pool c.self.inside.blocks.items c.self.inside.indexes.items c.args.node c.args.self.now c.self.view_is c.requires c.index-index.result.now c.index-index.ensures c.if-index.false in
     let block = block_is c.self.inside.pool c.self.inside.blocks.items c.self.inside.indexes.items c.args.node c.args.self.now c.self.view_is c.self.invariant c.requires some c.index-index.result.now c.index-index.ensures c.index.result.now c.index.ensures in
-    subst (λ b. Lists c.self.inside.pool b) (sym block) (block_listed c.self.inside.pool c.self.inside.blocks.items c.self.inside.indexes.items c.args.node c.args.self.now c.self.view_is c.self.invariant c.requires some)
+    subst (λ b. ListsBlock c.self.inside.pool b) (sym block) (block_listed c.self.inside.pool c.self.inside.blocks.items c.self.inside.indexes.items c.args.node c.args.self.now c.self.view_is c.self.invariant c.requires some)

@@ -1,5 +1,5 @@
 use Rattle.std.proofs.Common.{◌<◌, ap, sym, subst, ◌∙◌, arith}
-use Rattle.edge_pool.specs.Pools.{Extent, Pool, Lists, written}
+use Rattle.edge_pool.specs.Pools.{Extent, Pool, ListsBlock, written}
 use Rattle.outline_trie.specs.inside.RowsOf.{AreRows, rows_at}
 use Rattle.outline_trie.proofs.RowLemmas.{seen_inside, seen_some, seen_within, seen_written, written_sound, index_below, block_is, block_listed}
 use Rattle.outline_trie.proofs.rows.Rows.write.Goals as goal
@@ -16,7 +16,7 @@ pub write-requires-clause-listed : goal.write-requires-clause-listed
 write-requires-clause-listed c =
     let some = seen_some c.self.inside.pool c.self.inside.blocks.items c.self.inside.indexes.items c.args.node c.args.self.now c.self.view_is c.self.invariant c.args.place c.requires.node c.requires.place in
     let block = block_is c.self.inside.pool c.self.inside.blocks.items c.self.inside.indexes.items c.args.node c.args.self.now c.self.view_is c.self.invariant c.requires.node some c.index-index.result.now c.index-index.ensures c.index-block.result.now c.index-block.ensures in
-    subst (λ b. Lists c.self.inside.pool b) (sym block) (block_listed c.self.inside.pool c.self.inside.blocks.items c.self.inside.indexes.items c.args.node c.args.self.now c.self.view_is c.self.invariant c.requires.node some)
+    subst (λ b. ListsBlock c.self.inside.pool b) (sym block) (block_listed c.self.inside.pool c.self.inside.blocks.items c.self.inside.indexes.items c.args.node c.args.self.now c.self.view_is c.self.invariant c.requires.node some)
 
 pub write-requires-clause-within : goal.write-requires-clause-within
 write-requires-clause-within c =
