@@ -11,3 +11,4 @@ pub mod ReadBack
 pub mod Decided
 pub mod InnerPlaces
 pub mod Examples
+pub mod TokensTaken

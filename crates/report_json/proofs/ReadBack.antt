@@ -1,5 +1,5 @@
 -- The text of a report is read as its value.
-use Rattle.std.proofs.Common.{ℕ, ◌≡◌, ◌+◌, ◌<◌, ◌≤◌, ◌^◌, ◌∙◌, List, [], ◌∷◌, ◌++◌, All, Bool, true, false, IsUtf8, None, Some, ap, append-nil, arith, codes, map, refl, sym}
+use Rattle.std.proofs.Common.{ℕ, ◌≡◌, ◌+◌, ◌<◌, ◌≤◌, ◌^◌, ◌∙◌, List, [], ◌∷◌, All, Bool, true, false, IsUtf8, None, Some, ap, append-nil, arith, codes, map, refl, sym}
 use Rattle.std.specs.Prelude.{option_and_then, option_map}
 use Rattle.std.proofs.lemmas.List.Elements.{All-head, All-tail}
 use Rattle.std.proofs.lemmas.Str.{IsUtf8-append, IsUtf8-nil}
@@ -31,11 +31,11 @@ use Rattle.report_json.proofs.AsciiTexts.{utf8_number, utf8_outline}
 use Rattle.report_json.proofs.SameReports.{same_reports}
 
 -- the value's text is read as the value, where it nests no deeper
-record IsRead (depth : ℕ) (value : Data) : Type 0 where
-  same : of_json (outline value) ≡ Some value
-  numbers : HasNumbers (outline value)
-  utf8 : IsUtf8 (compact_text value)
-  shallow : tree.depth (outline value) ≤ depth
+pub record IsRead (depth : ℕ) (value : Data) : Type 0 where
+  pub same : of_json (outline value) ≡ Some value
+  pub numbers : HasNumbers (outline value)
+  pub utf8 : IsUtf8 (compact_text value)
+  pub shallow : tree.depth (outline value) ≤ depth
 
 record AreRead (depth : ℕ) (values : Items) : Type 0 where
   same : of_items (items_outline values) ≡ Some values
@@ -161,7 +161,7 @@ read_report_object a b c d e f g is_a is_b is_c is_d is_e is_f is_g =
       shallow = omega (arith, is_a.shallow, is_b.shallow, is_c.shallow, is_d.shallow, is_e.shallow, is_f.shallow, is_g.shallow);
     }
 
-read_report : (report : JsonReportView) → IsJsonReport report → IsRead 4 (report_value report)
+pub read_report : (report : JsonReportView) → IsJsonReport report → IsRead 4 (report_value report)
 read_report report is =
     let rows = all_read 2 IsJsonRow row_value read_row report.rows is.rows in
     read_report_object (rows_value report.rows) (number_value report.entries) (number_value report.folded) (number_value report.rounds) (number_value report.skipped) (number_value report.states) (number_value report.strokes)
@@ -170,15 +170,19 @@ read_report report is =
 
 -- ---- the text
 
+-- a text whose tokens are those of a value is read as the value
+pub read_tokens : (depth : ℕ) (value : Data) (text : List ℕ) → IsRead depth value → depth ≤ max_depth → tokens text ≡ json_tokens (outline value) → read text ≡ Some value
+read_tokens depth value text is fits are =
+    let tree = outline value in
+    ap (λ ts. option_and_then of_json (option_and_then (λ p. json.if_last p.0 p.1) (json.value max_depth ts))) (are ∙ sym (append-nil (json_tokens tree)))
+    ∙ ap (λ r. option_and_then of_json (option_and_then (λ p. json.if_last p.0 p.1) r)) (value-json_tokens tree max_depth [] (omega (arith, is.shallow, fits)))
+    ∙ is.same
+
 -- a text is read as the value that it was printed for
 read_printed : (depth : ℕ) (value : Data) → IsRead depth value → depth ≤ max_depth → read (compact_text value) ≡ Some value
 read_printed depth value is fits =
     let tree = outline value in
-    let back : tokens (compact_text value) ≡ json_tokens tree ++ [] =
-    ap tokens (sym (print-outline value)) ∙ tokens-print (json_tokens tree) (ArePrintable-json_tokens tree is.numbers) ∙ sym (append-nil (json_tokens tree)) in
-    ap (λ ts. option_and_then of_json (option_and_then (λ p. json.if_last p.0 p.1) (json.value max_depth ts))) back
-    ∙ ap (λ r. option_and_then of_json (option_and_then (λ p. json.if_last p.0 p.1) r)) (value-json_tokens tree max_depth [] (omega (arith, is.shallow, fits)))
-    ∙ is.same
+    read_tokens depth value (compact_text value) is fits (ap tokens (sym (print-outline value)) ∙ tokens-print (json_tokens tree) (ArePrintable-json_tokens tree is.numbers))
 
 -- the text of a report is read as its value
 pub reads_back : (report : JsonReportView) → IsJsonReport report → reading (json_text report) ≡ Some (report_value report)

@@ -12,6 +12,8 @@ mod making;
 mod parts;
 mod reading;
 mod reports;
+mod stream;
+mod taking;
 mod writing;
 
 pub use faults::JsonFault;

@@ -13,13 +13,14 @@ ghost use Rattle.report_json.specs.inside.Readings.{AreWords, IsRefused, IsWithi
 use crate::faults::JsonFault;
 use crate::parts::{ReportParts, RowParts, report_parts, row_parts};
 use crate::reports::{JsonReport, JsonRow};
+use crate::stream::stream_json;
 use serde_json::Value;
 use std::alloc::Global;
 use steno_order::{OutlineFault, read_outline, write_outline};
 use stroke::Outline;
 
 /// The greatest number of 32 bits.
-const MOST: u64 = 4_294_967_295;
+pub(crate) const MOST: u64 = 4_294_967_295;
 
 /// The whole number of a value, where it is one of these.
 fn number_in(value: &Value, least: u64, most: u64) -> Result<u64, JsonFault>
@@ -40,15 +41,15 @@ fn number_in(value: &Value, least: u64, most: u64) -> Result<u64, JsonFault>
 }
 
 /// The outline that a text spells, where the text is the canonical one.
-fn if_canonical(alloc: Global, outline: Outline, text: &str) -> Result<Outline, JsonFault>
+fn if_canonical(outline: Outline, text: &str, again: &mut String) -> Result<Outline, JsonFault>
     requires spelt { spelt_strokes text.now ≡ Some outline }
     requires is { IsOutline outline }
     ensures ok { IfOk result (λ outline. text.now ≡ canonical_text outline) }
     ensures is_outline { IfOk result IsOutline }
     ensures err { IfErr result (IsRefused IsOutline canonical_text text.now) }
 {
-    let mut again = String::new(alloc);
-    write_outline(outline.strokes(), &mut again)?;
+    again.clear();
+    write_outline(outline.strokes(), again)?;
     if again.as_str() == text {
         Ok(outline)
     } else {
@@ -56,8 +57,12 @@ fn if_canonical(alloc: Global, outline: Outline, text: &str) -> Result<Outline, 
     }
 }
 
-/// The outline of a canonical text.
-fn outline_of(alloc: Global, text: &str) -> Result<Outline, JsonFault>
+/// The outline of a canonical text. The text is written to `again`, whatever that has, and compared.
+pub(crate) fn outline_of(
+    alloc: Global,
+    text: &str,
+    again: &mut String,
+) -> Result<Outline, JsonFault>
     ensures ok { IfOk result (λ outline. text.now ≡ canonical_text outline) }
     ensures is_outline { IfOk result IsOutline }
     ensures err { IfErr result (IsRefused IsOutline canonical_text text.now) }
@@ -66,7 +71,7 @@ fn outline_of(alloc: Global, text: &str) -> Result<Outline, JsonFault>
         return Err(JsonFault::NotReport);
     }
     match read_outline(alloc, text) {
-        Ok(outline) => if_canonical(alloc, outline, text),
+        Ok(outline) => if_canonical(outline, text, again),
         Err(OutlineFault::Unreadable { .. }) => Err(JsonFault::NotReport),
         Err(OutlineFault::TooLong { .. }) => Err(JsonFault::NotReport),
         Err(OutlineFault::Memory) => Err(JsonFault::Memory),
@@ -80,7 +85,7 @@ fn outline_in(alloc: Global, value: &Value) -> Result<Outline, JsonFault>
     ensures err { IfErr result (IsRefused IsOutline outline_value (view value.now)) }
 {
     match value {
-        Value::String(text) => outline_of(alloc, text),
+        Value::String(text) => outline_of(alloc, text, &mut String::new(alloc)),
         _ => Err(JsonFault::NotReport),
     }
 }
@@ -231,16 +236,30 @@ fn read_value(alloc: Global, bytes: &[u8]) -> Result<Value, JsonFault>
     }
 }
 
-/// The report of a file's bytes.
-///
-/// Refused where the bytes have no reading by `serde_json`, and where the value is that of no report: where a member is
-/// missing or there is a further one, where a number isn't whole or is out of its range, where an outline isn't written
-/// as this crate writes it, and where a row has no words. The cost is that of reading the JSON.
-pub fn read_json(alloc: Global, bytes: &[u8]) -> Result<JsonReport, JsonFault>
+/// The report of a file's bytes, by the JSON value that they are.
+fn read_whole(alloc: Global, bytes: &[u8]) -> Result<JsonReport, JsonFault>
     ensures ok { IfOk result (λ report. reading bytes.now ≡ Some (report_value report)) }
     ensures is_report { IfOk result IsJsonReport }
     ensures err { IfErr result (IsJsonCause (reading bytes.now)) }
 {
     let value = read_value(alloc, bytes)?;
     report_in(alloc, &value)
+}
+
+/// The report of a file's bytes.
+///
+/// Refused where the bytes have no reading by `serde_json`, and where the value is that of no report: where a member is
+/// missing or there is a further one, where a number isn't whole or is out of its range, where an outline isn't written
+/// as this crate writes it, and where a row has no words. The cost is that of reading the JSON: once straight from its
+/// tokens, and where the report can't be read so, once more as a value.
+pub fn read_json(alloc: Global, bytes: &[u8]) -> Result<JsonReport, JsonFault>
+    ensures ok { IfOk result (λ report. reading bytes.now ≡ Some (report_value report)) }
+    ensures is_report { IfOk result IsJsonReport }
+    ensures err { IfErr result (IsJsonCause (reading bytes.now)) }
+{
+    match stream_json(alloc, bytes) {
+        Ok(report) => Ok(report),
+        Err(JsonFault::Memory) => Err(JsonFault::Memory),
+        Err(_) => read_whole(alloc, bytes),
+    }
 }

@@ -51,6 +51,7 @@ const CHANGES: &str = r#""place":1|"place":63|
 "states":9|"states":"","states":9|
 "states":9|"states":9,"states":""|the value is no report
 {"conflicts"|{"strokes":5, "conflicts" |
+"place":1,"strokes":2|"strokes":2, "place" : 1|
 KAT/TEL|KAT//TEL|the value is no report
 KAT/TEL||the value is no report
 KAT/TEL|kat/tel|the value is no report

@@ -8,6 +8,6 @@ pub returns-else-eq-clause-err : goal.returns-else-eq-clause-err
 returns-else-eq-clause-err c = λ a is e.
     let again = c.as_str.result.now in
     let written : again ≡ canonical_text c.args.outline =
-    c.as_str.ensures.value ∙ c.in_ok-write_outline.ensures.ok ∙ (λ i. c.new-again.ensures.bytes i ++ canonical_text (c.strokes.ensures.strokes i)) in
+    c.as_str.ensures.value ∙ c.in_ok-write_outline.ensures.ok ∙ (λ i. c.clear.ensures.bytes i ++ canonical_text (c.strokes.ensures.strokes i)) in
     other_text c.args.text.now c.args.outline again a c.requires.spelt written
     (λ same. true≢false (sym ((bytes_eq-Decides again c.args.text.now).1 same) ∙ sym c.if-eq.ensures)) is e
