@@ -58,8 +58,8 @@ fn put_lines<F: Files>(
     requires numbers { length words.now ≤ most_numbers }
     requires rows { length rows.now < row_limit }
     requires words { All (λ row. 0 < length row.words) rows.now }
-    ensures { PutsLines (own_certificate_lines entries words.now rows.now) result writer.old writer.new
-        (F.view files.old) (F.view files.new) }
+    ensures { let lines = own_certificate_lines entries words.now rows.now in
+        PutsLines lines result writer.old writer.new (F.view files.old) (F.view files.new) }
 {
     match put_head(writer, files, entries, words.len() as u32) {
         Ok(()) => {}

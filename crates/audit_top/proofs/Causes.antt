@@ -3,7 +3,7 @@ use Rattle.longest_match.specs.Rows.{Row}
 use Rattle.round_core.specs.Searches.{SettledView}
 use Rattle.state_numbering.specs.Causes.{most_states}
 use Rattle.steno_rules.specs.StateNumbers.{number_count}
-use Rattle.std.proofs.Common.{ℕ, ◌+◌, ◌≡◌, ◌⊎◌, inl, inr, List, [], ◌∷◌, Bool, true, false, cond, nat_lt, length, sym, subst, refl, Option, Some, None, IfSome}
+use Rattle.std.proofs.Common.{ℕ, ◌+◌, ◌≡◌, ◌⊎◌, inl, inr, List, [], ◌∷◌, Bool, true, false, cond, nat_lt, length, sym, subst, refl, Option, Some, None, IfSome, option_map, if◌then◌else◌}
 use Rattle.dict_json.specs.Outcomes.{Outcome, dictionary_outcome}
 use Rattle.dict_json.specs.Outcomes as of
 use Rattle.dict_stack.specs.Stacks.{StackView, most_dictionaries, most_entries}
@@ -12,7 +12,7 @@ use Rattle.outline_trie.specs.declared.trie.TheConstants.Trie.{MAX_NODES}
 use Rattle.report.specs.Refusals.{RefusalView, certificate_too_long, not_words, too_many_dictionaries, too_many_bytes, too_many_entries, too_many_nodes, too_many_states}
 use Rattle.dict_files.specs.Refusals.{dictionaries_refusal, file_refusal, first_of, first_refusal, if_over, outcome_refusal, outline_count, stack_from}
 use Rattle.dict_files.specs.declared.loading.TheConstants.{MAX_BYTES}
-use Rattle.commands.specs.Commands.{CommandView, replay, explain, audit, audit_json, rows, audit_to, check, upgrade, settled, parse, generate, audit_generated}
+use Rattle.commands.specs.Commands.{CommandView, brief_outlines, replay, explain, audit, audit_json, rows, audit_to, check, upgrade, settled, parse, try_briefs, generate, audit_generated}
 use Rattle.commands.specs.Inputs.{checks, finds}
 use Rattle.audit_top.specs.Outcomes.{Expected, Inputs, OverStack, UnlessRefused, refused, search_limit, trie_limit}
 use Rattle.audit_top.specs.Translated.{IsExplained, IsReplay}
@@ -26,6 +26,13 @@ use Rattle.audit_top.specs.Upgraded.{IsUpgrade, upgrade_result}
 use Rattle.audit_top.specs.Kept.{IsSettled, settled_result}
 use Rattle.audit_top.specs.Listed.{IsListed, IsRows, ListsRows, bytes_limit, rows_result}
 use Rattle.audit_top.specs.Parsed.{IsParse, parse_result, parse_status}
+use Rattle.audit_top.specs.Tried.{IsTry, TriesBriefs, briefs_limit, has_conflict, limit_line, trials_status, try_result}
+use Rattle.brief_trial.specs.Limits.{brief_limit, first_limit, over_or, searched_limit, trial_limit}
+use Rattle.brief_trial.specs.Trials.{TrialView, with_brief}
+use Rattle.brief_trial.specs.declared.faults.TrialFault.{TrialFault}
+use Rattle.brief_trial.specs.declared.faults.TrialFault.TheVariants as trial_fault
+use Rattle.outline_trie.specs.Tries.{most_nodes}
+use Rattle.std.specs.List.{list_any}
 use Rattle.audit_top.specs.Checked.{IsCheck, check_result}
 use Rattle.certificate_laws.specs.Checks.{CheckOutcome, accepted, rejected, too_long}
 use Rattle.certificate_laws.specs.Validity.{check_outcome}
@@ -81,6 +88,31 @@ input-search stack = input-first (trie_limit stack) _ (input-trie stack) (input-
 
 input-entries : (stack : StackView) → IfSome (entries_limit stack) IsInput
 input-entries stack = input-first (if_over most_entries too_many_entries (length stack.outlines)) (search_limit stack) (input-over most_entries too_many_entries (length stack.outlines) (inr refl)) (input-search stack)
+
+-- of the trial stack of a brief
+input-count : (most : ℕ) (limit : ℕ → TrialFault) (count : ℕ) (later : Option TrialFault) → IsInput (limit_line (limit count)) → IfSome (option_map limit_line later) IsInput → IfSome (option_map limit_line (over_or most limit count later)) IsInput
+input-count most limit count later line others = by (nat_lt most count)
+  where
+    by : (b : Bool) → IfSome (option_map limit_line (if b then Some (limit count) else later)) IsInput
+    by true = line
+    by false = others
+
+input-first_limit : (first later : Option TrialFault) → IfSome (option_map limit_line first) IsInput → IfSome (option_map limit_line later) IsInput → IfSome (option_map limit_line (first_limit first later)) IsInput
+input-first_limit (Some limit) later line others = line
+input-first_limit None later line others = others
+
+input-limits : (entries briefs : List (List ℕ)) → IfSome (option_map limit_line (trial_limit entries briefs)) IsInput
+input-limits entries [] = tt
+input-limits entries (brief ∷ briefs) =
+    let trial = with_brief entries brief in
+    input-first_limit (brief_limit entries brief) (trial_limit entries briefs)
+    (input-count most_entries trial_fault.Entries (length trial) (searched_limit trial) (inr refl)
+    (input-count most_nodes trial_fault.Nodes (length (nodes trial)) _ (inr refl)
+    (input-count most_states trial_fault.States (number_count trial) None (inr refl) tt)))
+    (input-limits entries briefs)
+
+pub input-briefs : (briefs : List (List ℕ)) (stack : StackView) → IfSome (briefs_limit briefs stack) IsInput
+input-briefs briefs stack = input-limits stack.outlines briefs
 
 -- ---- statuses
 
@@ -156,6 +188,14 @@ fits-two : (command : Option CommandView) (found : Option ReadingsView) → find
 fits-two command None is = fits-clean command
 fits-two command (Some two) is = fits-found command is
 
+-- of trials
+fits-trials : (command : Option CommandView) (trials : List TrialView) → finds command ≡ true → Fits command (trials_status trials)
+fits-trials command trials is = by (list_any has_conflict trials)
+  where
+    by : (b : Bool) → Fits command (if b then Conflicts else Clean)
+    by true = fits-found command is
+    by false = fits-clean command
+
 -- of the check of a certificate
 fits-outcome : (command : Option CommandView) (outcome : CheckOutcome) → checks command ≡ true → Fits command (Expected.status (check_result outcome))
 fits-outcome command (accepted n) checks = fits-clean command
@@ -204,6 +244,11 @@ fits inputs (Some (settled workers dicts)) result is =
 fits inputs (Some (parse workers dicts)) result is =
     fits-over (Some (parse workers dicts)) search_limit IsParse dicts inputs.dictionaries result input-search
     (λ s r e. fits-as (Some (parse workers dicts)) r (parse_result s e.searched e.found) e.produces (fits-two (Some (parse workers dicts)) e.found refl)) is
+fits inputs (Some (try_briefs workers briefs dicts)) result is =
+    let command = Some (try_briefs workers briefs dicts) in
+    fits-over command search_limit (IsTry (brief_outlines briefs)) dicts inputs.dictionaries result input-search
+    (λ s r e. fits-unless command (briefs_limit (brief_outlines briefs) s) (TriesBriefs (brief_outlines briefs) s) r (input-briefs (brief_outlines briefs) s)
+    (λ r e. fits-as command r (try_result s e.trials) e.produces (fits-trials command e.trials refl)) e) is
 fits inputs (Some (generate start count)) result is = fits-as (Some (generate start count)) result _ is (fits-clean (Some (generate start count)))
 fits inputs (Some (audit_generated start count workers)) result is =
     let stack : StackView = generated_stack start count in

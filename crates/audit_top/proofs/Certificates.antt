@@ -1,21 +1,18 @@
 -- What the check of a certificate returns.
-use Rattle.std.proofs.Common.{ℕ, ◌≡◌, ◌∙◌, inl, inr, List, ap, sym, subst, refl, Option, Some, None, IfSome, Result, Ok, Err, true, false}
+use Rattle.std.proofs.Common.{ℕ, ◌≡◌, ◌∙◌, List, ap, sym, subst, refl, Option, Some, None, IfSome, Result, Err}
 use Rattle.outside.specs.Files.{FilesView, Held}
 use Rattle.certificate.specs.Readers.{OpensFile}
 use Rattle.dict_stack.specs.Stacks.{StackView}
-use Rattle.report.specs.Refusals.{RefusalView, certificate_failed, certificate_too_long}
-use Rattle.report.specs.Refusals as of_line
-use Rattle.report.specs.declared.faults.Why.{Why}
+use Rattle.report.specs.Refusals.{certificate_failed}
 use Rattle.certificate_laws.specs.Checks.{CheckOutcome, accepted, rejected, too_long}
 use Rattle.certificate_laws.specs.Validity.{check_outcome}
 use Rattle.cert_check.specs.Verdicts.{IsAccepted, IsCheckCause, closure_at, is_failing}
 use Rattle.cert_check.specs.declared.faults.CheckFault.{CheckFault}
 use Rattle.cert_check.specs.declared.faults.CheckFault.TheVariants as fault
 use Rattle.audit_top.specs.Checked.{IsCheck, check_result}
-use Rattle.audit_top.specs.Outcomes.{Expected, refused}
 use Rattle.audit_top.specs.Runs.{OutputView}
-use Rattle.audit_top.specs.inside.Answers.{Answers, Goes, Stops, reads_only}
-use Rattle.audit_top.specs.inside.Stops.{by_memory, by_refusal, refusal_of_check, stop_of}
+use Rattle.audit_top.specs.inside.Answers.{Goes, reads_only}
+use Rattle.audit_top.specs.inside.Stops.{refusal_of_check}
 use Rattle.audit_top.specs.declared.refusals.Refusal.{Refusal}
 use Rattle.audit_top.specs.declared.refusals.Refusal.TheVariants as of
 use Rattle.audit_top.specs.declared.status.Status.{Status}

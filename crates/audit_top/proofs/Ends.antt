@@ -11,7 +11,7 @@ use Rattle.commands.specs.Inputs.{certificate_in, checks, dictionaries_in, file_
 use Rattle.audit_top.specs.Outcomes.{Expected, Inputs, Written}
 use Rattle.outside.specs.declared.fault.Way.{Way}
 use Rattle.outside.specs.declared.fault.Way.TheVariants.{Reading, Writing}
-use Rattle.audit_top.specs.Runs.{AddsPart, Ends, EndsAsExpected, EndsWhole, FailedAt, FileFailed, IsFailure, IsFilePart, IsRun, MayProduce, NoFault, OutputView, PutsFailure, World}
+use Rattle.audit_top.specs.Runs.{AddsPart, Ends, EndsAsExpected, EndsWhole, FailedAt, FailsToRead, FileFailed, IsFailure, IsFilePart, IsRun, MayProduce, NoFault, OutputView, PutsFailure, World}
 use Rattle.audit_top.specs.Statuses.{refusal_status}
 use Rattle.audit_top.specs.inside.Answers.{Begins, Begun, IsAnswer, IsAnswered, IsStopped, Refuses}
 use Rattle.audit_top.specs.inside.Endings.{EndsLine, EndsMemory, EndsStop, Finishes}
@@ -125,13 +125,13 @@ rose_at (Some name) way old new failed = failed.rose
 
 -- a file's failure has its status, and the count of faults rose
 failure_fits : (command : Option CommandView) (inputs : Inputs) (old new : FilesView) (refusal : RefusalView) → FileFailed command inputs old new refusal → (refusal_status refusal ≡ File) × Rose old.faults new.faults
-failure_fits command inputs old new (file_failed file) (inl failed) = (refl, failed.fault.rose)
-failure_fits command inputs old new (file_failed file) (inr failed) = (refl, rose_at (report_in command) Reading old new failed.1)
+failure_fits command inputs old new (file_failed file) (inl failed) = (refl, failed.0.fault.rose)
+failure_fits command inputs old new (file_failed file) (inr failed) = (refl, rose_at (report_in command) Reading old new failed.1.0)
 failure_fits command inputs old new not_words failed = absurd failed
 failure_fits command inputs old new certificate_failed failed = (refl, by failed.failed)
   where
-    by : FailedAt (certificate_in command) Reading old new ⊎ FailedAt (target_of command) Writing old new → Rose old.faults new.faults
-    by (inl read) = rose_at (certificate_in command) Reading old new read
+    by : FailsToRead (certificate_in command) old new ⊎ FailedAt (target_of command) Writing old new → Rose old.faults new.faults
+    by (inl read) = rose_at (certificate_in command) Reading old new read.0
     by (inr written) = rose_at (target_of command) Writing old new written
 failure_fits command inputs old new (not_json file) failed = absurd failed
 failure_fits command inputs old new (not_object file) failed = absurd failed

@@ -13,8 +13,8 @@ use Rattle.dict_stack.specs.Stacks.{StackView}
 use Rattle.dict_files.specs.Contents.{AreContents}
 use Rattle.dict_files.specs.DictFiles.{bytes_of}
 use Rattle.dict_files.specs.Refusals.{dictionaries_refusal, first_of, stack_from}
-use Rattle.commands.specs.Commands.{CommandView, audit, audit_json, check, explain, parse, rows as rows_of, settled, upgrade}
-use Rattle.audit_top.specs.Outcomes.{Expected, Inputs, OverStack, UnlessRefused, search_limit, trie_limit}
+use Rattle.commands.specs.Commands.{CommandView, audit, audit_json, check, explain, brief_outlines, parse, rows as rows_of, settled, try_briefs, upgrade}
+use Rattle.audit_top.specs.Outcomes.{Expected, Inputs, OverStack, UnlessRefused, search_limit, trie_limit, refused}
 use Rattle.audit_top.specs.Audited.{IsAudit, IsAuditJson, summary_of}
 use Rattle.audit_top.specs.Kept.{IsSettled}
 use Rattle.audit_top.specs.Listed.{IsListed, IsRows, ListsRows, bytes_limit, rows_result}
@@ -23,10 +23,9 @@ use Rattle.audit_top.specs.Upgraded.{IsUpgrade, upgrade_result}
 use Rattle.audit_top.specs.Checked.{IsCheck, accepted_line, check_result}
 use Rattle.audit_top.specs.Translated.{IsExplained, all_typed, typed_parts, typed_text}
 use Rattle.audit_top.specs.Expected.{IsExpected}
-use Rattle.audit_top.specs.Headline.{Headline, ReportsConflicts, ReportsFiles}
-use Rattle.audit_top.specs.Promises.{Explains, Keeps, KeepsPairs, Lists, ListsReport, Reads, Tells, TellsConflicts, Upgrades, Verdict, Verifies, WritesAnew}
+use Rattle.audit_top.specs.Headline.{Headline, ReportsFiles}
+use Rattle.audit_top.specs.Promises.{Explains, Keeps, KeepsPairs, Lists, ListsReport, Reads, Tells, TellsConflicts, Tries, Upgrades, Verdict, Verifies, WritesAnew, IsUnfinished}
 use Rattle.audit_top.specs.Runs.{Ends, IsRun, MayProduce, World, Writes}
-use Rattle.audit_top.specs.Statuses.{refusal_status}
 use Rattle.audit_top.specs.declared.status.Status.{Status}
 use Rattle.audit_top.specs.declared.status.Status.TheVariants.{Clean, Conflicts, Words, File, Refused, Limit, Output, Memory, Rejected}
 use Rattle.dict_json.specs.Reading.{reading}
@@ -35,10 +34,13 @@ use Rattle.report_json.specs.ReadOutcomes.{IsReadOutcome, ReadOutcome, a_report,
 use Rattle.cert_upgrade.specs.Forms.{upgrade_outcome}
 use Rattle.cert_upgrade.specs.Upgrades.{IsNeverValid}
 use Rattle.cert_upgrade.proofs.UpgradeLaw.{never_valid, upgraded}
-use Rattle.audit_top.proofs.Causes.{IsInput, input-dictionaries, input-first, input-over, input-search, input-trie}
+use Rattle.audit_top.proofs.Causes.{IsInput, input-briefs, input-dictionaries, input-first, input-over, input-search, input-trie}
 use Rattle.audit_top.proofs.Parsing.{read-one-way}
+use Rattle.audit_top.proofs.Trying.{tells-trials}
+use Rattle.audit_top.specs.Tried.{IsTry, TellsTrials, TriesBriefs, briefs_limit}
 use Rattle.audit_top.proofs.Ends.{status-failed}
 use Rattle.audit_top.proofs.StackEntries.{stack-entries}
+use Rattle.audit_top.proofs.Unfinished.{unfinished}
 
 -- ---- a run that wasn't cut and met no file that failed
 
@@ -66,7 +68,7 @@ pub record Produced (command : Option CommandView) (inputs : Inputs) (before aft
 not_done : (status other : Status) → is_done status ≡ true → status ≡ other → is_done other ≡ false → ⊥
 not_done status other done is other_done = true≢false (sym done ∙ ap is_done is ∙ other_done)
 
-produced : (command : Option CommandView) (inputs : Inputs) (before after : World) (status : Status) → is_done status ≡ true → Ends (MayProduce command inputs before after) before after status → Produced command inputs before after status
+pub produced : (command : Option CommandView) (inputs : Inputs) (before after : World) (status : Status) → is_done status ≡ true → Ends (MayProduce command inputs before after) before after status → Produced command inputs before after status
 produced command inputs before after status done (inr cut) = absurd (by cut.ends)
   where
     by : (status ≡ Output) ⊎ (status ≡ Memory) → ⊥
@@ -78,24 +80,25 @@ produced command inputs before after status done (inl whole) = by whole.may
     by (inl may) = record { result = whole.result; is = may; ends = whole.ends; text = whole.text; files = whole.files }
     by (inr failure) = absurd (not_done status File done (whole.ends ∙ status-failed command inputs before.files after.files whole.result failure) refl)
 
+-- what was refused has another one
+pub not_refused : (refusal : RefusalView) (result : Expected) → IsInput refusal → is_done result.status ≡ true → result ≡ refused refusal → ⊥
+not_refused refusal result (inl a) done is = not_done result.status Refused done (ap (λ (r : Expected). r.status) is ∙ a) refl
+not_refused refusal result (inr a) done is = not_done result.status Limit done (ap (λ (r : Expected). r.status) is ∙ a) refl
+
 -- nothing was refused
 unrefused : (o : Option RefusalView) (Follows : Expected → Type 0) (result : Expected) → IfSome o IsInput → is_done result.status ≡ true → UnlessRefused o Follows result → Follows result
 unrefused None Follows result input done is = is
-unrefused (Some refusal) Follows result input done is = absurd (by input)
-  where
-    by : (refusal_status refusal ≡ Refused) ⊎ (refusal_status refusal ≡ Limit) → ⊥
-    by (inl a) = not_done result.status Refused done (ap (λ (r : Expected). r.status) is ∙ a) refl
-    by (inr a) = not_done result.status Limit done (ap (λ (r : Expected). r.status) is ∙ a) refl
+unrefused (Some refusal) Follows result input done is = absurd (not_refused refusal result input done is)
 
 -- over the stack of dictionaries
-over : (limit : StackView → Option RefusalView) (Follows : StackView → Expected → Type 0) (dicts contents : List (List ℕ)) (result : Expected) → ((s : StackView) → IfSome (limit s) IsInput) → is_done result.status ≡ true
+pub over : (limit : StackView → Option RefusalView) (Follows : StackView → Expected → Type 0) (dicts contents : List (List ℕ)) (result : Expected) → ((s : StackView) → IfSome (limit s) IsInput) → is_done result.status ≡ true
     → OverStack limit Follows dicts contents result → Follows (stack_from dicts contents) result
 over limit Follows dicts contents result input done is =
     unrefused (first_of (dictionaries_refusal dicts contents) (limit (stack_from dicts contents))) (Follows (stack_from dicts contents)) result
     (input-first (dictionaries_refusal dicts contents) (limit (stack_from dicts contents)) (input-dictionaries dicts contents) (input (stack_from dicts contents))) done is
 
 -- what was produced ended with a status of that kind
-ends_done : (status : Status) (result : Expected) → status ≡ result.status → is_done status ≡ true → is_done result.status ≡ true
+pub ends_done : (status : Status) (result : Expected) → status ≡ result.status → is_done status ≡ true → is_done result.status ≡ true
 ends_done status result same done = sym (ap is_done same) ∙ done
 
 -- ---- the commands
@@ -117,7 +120,7 @@ audited workers dicts before after status run done =
       },
     )
 
-found_done : (status : Status) → (status ≡ Clean) ⊎ (status ≡ Conflicts) → is_done status ≡ true
+pub found_done : (status : Status) → (status ≡ Clean) ⊎ (status ≡ Conflicts) → is_done status ≡ true
 found_done status (inl is) = ap is_done is
 found_done status (inr is) = ap is_done is
 
@@ -246,6 +249,23 @@ reads command before after status run workers dicts is ends = by (subst (λ c. I
         let is = over search_limit IsParse dicts run.inputs.dictionaries made.result input-search (ends_done status made.result made.ends done) made.is in
         (run.inputs.dictionaries, run.read.dictionaries, read-one-way (stack_from dicts run.inputs.dictionaries) before.out.text after.out.text status made.result is made.text made.ends)
 
+-- ---- briefs
+
+briefs_tried : (workers : ℕ) (briefs : List ℕ) (dicts : List (List ℕ)) (before after : World) (status : Status) → IsRun (Some (try_briefs workers briefs dicts)) before after status → is_done status ≡ true
+    → (contents : List (List ℕ)) × AreContents before.files.held dicts contents × TellsTrials (brief_outlines briefs) before.out.text after.out.text status (stack_from dicts contents)
+briefs_tried workers briefs dicts before after status run done =
+    let outlines = brief_outlines briefs in
+    let made = produced (Some (try_briefs workers briefs dicts)) run.inputs before after status done run.ends in
+    let stack = stack_from dicts run.inputs.dictionaries in
+    let ends = ends_done status made.result made.ends done in
+    let may = over search_limit (IsTry outlines) dicts run.inputs.dictionaries made.result input-search ends made.is in
+    let is = unrefused (briefs_limit outlines stack) (TriesBriefs outlines stack) made.result (input-briefs outlines stack) ends may in
+    (run.inputs.dictionaries, run.read.dictionaries, tells-trials outlines stack before.out.text after.out.text status made.result is made.text made.ends)
+
+pub tries : (command : Option CommandView) (before after : World) (status : Status) → IsRun command before after status → Tries command before.files.held before.out.text after.out.text status
+tries command before after status run workers briefs dicts is ends =
+    briefs_tried workers briefs dicts before after status (subst (λ c. IsRun c before after status) is run) (found_done status ends)
+
 -- ---- the rows of a report
 
 bytes_input : (bytes : List ℕ) → IfSome (bytes_limit bytes) IsInput
@@ -314,11 +334,13 @@ upgrades command before after status run certificate target is = by before.files
     run' = subst (λ c. IsRun c before after status) is run
 
     by : (told : Option Held) → before.files.held ≡ told
-        → IfSome told (λ held. ((status ≡ Clean) → WritesAnew target (held certificate) before after) × ((status ≡ Rejected) → IsNeverValid (held certificate)))
+        → IfSome told (λ held. ((status ≡ Clean) → WritesAnew target (held certificate) before after) × ((status ≡ Rejected) → IsNeverValid (held certificate))
+        × ((status ≡ File) → IsUnfinished certificate target (held certificate) before.files after.files))
     by None told = tt
     by (Some held) told = (
       (λ clean. let m = upgrade_made certificate target before after status run' held told (ap is_done clean) in
           anew target (held certificate) before after (upgrade_outcome (held certificate)) m.0.result refl m.1 (sym m.0.ends ∙ clean) m.0.text m.0.files),
       (λ ends. let m = upgrade_made certificate target before after status run' held told (ap is_done ends) in
           never target (held certificate) (upgrade_outcome (held certificate)) m.0.result refl m.1 (sym m.0.ends ∙ ends)),
+      (λ failed. unfinished certificate target before after status run' held told failed),
     )

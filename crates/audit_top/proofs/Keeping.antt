@@ -1,5 +1,5 @@
 -- The parts of `settled`.
-use Rattle.std.proofs.Common.{ℕ, ◌≡◌, ◌∙◌, List, ap, ap₂, sym, subst, refl}
+use Rattle.std.proofs.Common.{ℕ, ◌≡◌, ◌∙◌, List, ap₂, sym, subst, refl}
 use Rattle.graph_rules.specs.Graphs.{AreSettled}
 use Rattle.steno_rules.specs.ClosureGraphs.{kept_lists}
 use Rattle.longest_match.specs.Rows.{Row}

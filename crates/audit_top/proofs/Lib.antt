@@ -14,5 +14,9 @@ pub mod Listing
 pub mod Upgrading
 pub mod Keeping
 pub mod Parsing
+pub mod Trying
 pub mod Puts
 pub mod StackEntries
+pub mod SmallRows
+pub mod Certifying
+pub mod Unfinished

@@ -1,19 +1,17 @@
 -- The parts of `rows`, and what is expected of it.
-use Rattle.std.proofs.Common.{ℕ, ◌+◌, ◌≡◌, ◌≤◌, ◌<◌, ◌∙◌, ◌⊎◌, inl, inr, List, [], ap, sym, subst, refl, arith, length, Option, Some, None, IfSome, Result, Ok, Err, true, false, true≢false, Bool, if◌then◌else◌}
+use Rattle.std.proofs.Common.{ℕ, ◌+◌, ◌≡◌, ◌≤◌, ◌<◌, ◌∙◌, ◌⊎◌, inl, inr, List, ap, sym, subst, refl, arith, length, Option, Some, None, IfSome, Result, Err, true, false, true≢false, Bool, if◌then◌else◌}
 use Rattle.std.specs.List.{range_with_len}
 use Rattle.std.proofs.lemmas.List.FromFn.{length-range_with_len}
-use Rattle.serde_json.specs.Data.{Data}
-use Rattle.outside.specs.Faults.{Rose, Steady, is_read_failed}
+use Rattle.outside.specs.Faults.{Steady, is_read_failed}
 use Rattle.outside.specs.Files.{FaultAt, FilesView, Held, IsLastOpened, LeavesFiles}
 use Rattle.outside.specs.declared.fault.ReadFault.{ReadFault}
 use Rattle.outside.specs.declared.fault.ReadFault.TheVariants as read
 use Rattle.outside.specs.declared.fault.Way.TheVariants.{Reading}
 use Rattle.certificate.specs.Readers.{OpensFile}
 use Rattle.dict_json.specs.Reading.{reading}
-use Rattle.dict_files.specs.Refusals.{if_over}
 use Rattle.dict_files.proofs.FirstRefusals.{if_over-over, if_over-within}
 use Rattle.dict_files.specs.declared.loading.TheConstants.{MAX_BYTES}
-use Rattle.report.specs.Refusals.{RefusalView, file_failed, not_json, not_report, too_many_bytes}
+use Rattle.report.specs.Refusals.{file_failed, not_json, not_report, too_many_bytes}
 use Rattle.report_json.specs.JsonFaults.{IsJsonCause}
 use Rattle.report_json.specs.JsonLines.{lines_text}
 use Rattle.report_json.specs.JsonReports.{IsJsonReport, JsonReportView, report_value}
@@ -22,9 +20,9 @@ use Rattle.report_json.specs.declared.faults.JsonFault.{JsonFault}
 use Rattle.report_json.specs.declared.faults.JsonFault.TheVariants as json
 use Rattle.commands.specs.Commands.{rows as rows_of}
 use Rattle.audit_top.specs.Listed.{IsListed, IsRows, ListsRows, bytes_limit, rows_result}
-use Rattle.audit_top.specs.Outcomes.{Expected, Inputs, UnlessRefused, prints, refused}
-use Rattle.audit_top.specs.Runs.{FailedAt, FileFailed, OutputView}
-use Rattle.audit_top.specs.inside.Answers.{Answers, Goes, MayGo, Stops, reads_only}
+use Rattle.audit_top.specs.Outcomes.{prints, refused}
+use Rattle.audit_top.specs.Runs.{FailsToRead, OutputView}
+use Rattle.audit_top.specs.inside.Answers.{Answers, Goes, MayGo, reads_only}
 use Rattle.audit_top.specs.inside.Stops.{refusal_of_json, refusal_of_read, stop_of}
 use Rattle.audit_top.specs.declared.refusals.Refusal.{Refusal}
 use Rattle.audit_top.specs.declared.refusals.Refusal.TheVariants as of
@@ -129,6 +127,6 @@ is-rows file = record {
   expected = λ inputs r is. is;
 }
   where
-    by : (old new : FilesView) → FailedAt (Some file) Reading old new ⊎ ⊥ → FailedAt (Some file) Reading old new
+    by : (old new : FilesView) → FailsToRead (Some file) old new ⊎ ⊥ → FailsToRead (Some file) old new
     by old new (inl is) = is
     by old new (inr is) = absurd is

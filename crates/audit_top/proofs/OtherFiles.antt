@@ -1,5 +1,5 @@
 -- What a part of a command returns that reads or writes one more file behind the dictionaries.
-use Rattle.std.proofs.Common.{ℕ, ◌≡◌, ◌∙◌, ◌⊎◌, inl, inr, List, [], ap, sym, subst, refl, length, Option, Some, None, IfSome, IsSome, Result, Ok, Err, Bool, true, false, true≢false, ◌<◌, ◌≤◌, arith}
+use Rattle.std.proofs.Common.{ℕ, ◌≡◌, ◌∙◌, ◌⊎◌, inl, inr, List, [], ap, sym, subst, refl, length, Option, Some, None, IfSome, IsSome, Result, Ok, Err, true, false, true≢false, ◌<◌, ◌≤◌, arith}
 use Rattle.std.specs.Prelude.{is_some}
 use Rattle.outside.specs.Faults.{Rose}
 use Rattle.outside.specs.Files.{Both, FaultAt, FilesView, Held, IsLastOpened, LeavesFiles, Replaces}
@@ -10,20 +10,19 @@ use Rattle.dict_stack.specs.Stacks.{StackView, most_dictionaries}
 use Rattle.dict_files.specs.Contents.{AreContents, ReadsOnly}
 use Rattle.dict_files.specs.Loading.{IsLoaded}
 use Rattle.dict_files.specs.Refusals.{dictionaries_refusal, first_of, stack_from}
-use Rattle.report.specs.Refusals.{RefusalView, certificate_failed, refusal_text}
+use Rattle.report.specs.Refusals.{RefusalView, certificate_failed}
 use Rattle.commands.specs.Commands.{CommandView, check}
 use Rattle.audit_top.specs.Checked.{IsCheck}
 use Rattle.commands.specs.Inputs.{certificate_in, dictionaries_in, file_in, first_named, reads_files, report_in, target_of, writes}
 use Rattle.audit_top.specs.Outcomes.{Expected, Inputs, OverStack, UnlessRefused, Written, refused, search_limit}
 use Rattle.audit_top.specs.Expected.{IsExpected}
-use Rattle.audit_top.specs.Runs.{CertificateFailed, FailedAt, FailsNamed, FileFailed, IsBegun, IsFailure, IsFilePart, MayProduce, OpensNamed, OutputView, World, Writes}
-use Rattle.audit_top.specs.Statuses.{refusal_status}
-use Rattle.audit_top.specs.inside.Answers.{Answers, Begins, Begun, FailsBehind, Goes, IsAnswer, IsAnswered, IsFileFailure, IsStopped, MayGo, Refuses, Stops, Touched, needs_memory, reads_only}
+use Rattle.audit_top.specs.Runs.{CertificateFailed, FailedAt, FailsNamed, FailsToRead, FileFailed, IsFilePart, MayProduce, OpensNamed, OutputView, Writes}
+use Rattle.audit_top.specs.inside.Answers.{Answers, Begun, FailsBehind, Goes, IsAnswer, IsAnswered, IsStopped, MayGo, Touched, needs_memory, reads_only}
 use Rattle.audit_top.specs.inside.Stops.{Stop, by_memory, by_output, by_refusal, stop_of}
 use Rattle.audit_top.specs.declared.refusals.Refusal.{Refusal}
 use Rattle.audit_top.specs.declared.refusals.Refusal.TheVariants as of
 use Rattle.audit_top.specs.declared.status.Status.{Status}
-use Rattle.audit_top.proofs.Stacks.{HasStack, accepted_stack, are-some, are_none, at, few_accepted, few_need, is-some_file, lift, opens, refused-stack, some_file, too_many}
+use Rattle.audit_top.proofs.Stacks.{HasStack, accepted_stack, are_none, at, few_accepted, few_need, is-some_file, lift, opens, refused-stack, some_file, too_many}
 use Rattle.audit_top.proofs.Stops.{begins-weaker, unless-none}
 
 -- ---- what may be produced is more, and the files were other ones with the same contents
@@ -89,7 +88,7 @@ pub reading-failed : (line : RefusalView) (name : List ℕ) (May : Option (List 
     → OpensFile name true old new → stop_of reason ≡ by_refusal line → (reason ≡ of.Memory → ⊥) → Goes line None (reads_only name) May (at old out) (at new out) (Err reason)
 reading-failed line name May old new out reason opens stop other =
     let fault : FaultAt name Reading old new = record { rose = opens.rose refl; place = opens.latest } in
-    let behind : FailsBehind None (reads_only name) old new = record { accepted = refl; failed = inl fault } in
+    let behind : FailsBehind None (reads_only name) old new = record { accepted = refl; failed = inl (fault, opens.leaves) } in
     let file = some_file old.held (Some name) in
     record {
       file = file;
@@ -168,6 +167,10 @@ fault_from : (name : Option (List ℕ)) (way : Way) (old mid new : FilesView) �
 fault_from None way old mid new same failed = absurd failed
 fault_from (Some name) way old mid new same failed = record { rose = subst (λ n. Rose n new.faults) same failed.rose; place = failed.place }
 
+-- no file has changed
+leaves_from : (old mid new : FilesView) → LeavesFiles old mid → LeavesFiles mid new → LeavesFiles old new
+leaves_from old mid new before after = record { held = after.held ∙ before.held; writing = after.writing ∙ before.writing }
+
 module _ (command : Option CommandView) (dicts : List (List ℕ)) (touched : Touched) (Follows : Option (List ℕ) → StackView → Expected → Type 0) (over : IsBehind command dicts touched Follows)
     (stack : StackView) (old mid new : FilesView) (before after : OutputView) (answer : Result Status Refusal) (loaded : IsLoaded dicts old.held stack) (reads : ReadsOnly dicts old mid) (steady : mid.faults ≡ old.faults)
     (goes : Goes certificate_failed (search_limit stack) touched (λ file. UnlessRefused (search_limit stack) (Follows file stack)) (at mid before) (at new after) answer) where
@@ -194,8 +197,8 @@ module _ (command : Option CommandView) (dicts : List (List ℕ)) (touched : Tou
   unfolding inputs
   failed behind = record { accepted = accepted behind.accepted; failed = by behind.failed }
     where
-      by : FailedAt touched.read Reading mid new ⊎ FailedAt touched.written Writing mid new → FailedAt (certificate_in command) Reading old new ⊎ FailedAt (target_of command) Writing old new
-      by (inl read) = inl (subst (λ o. FailedAt o Reading old new) (sym over.read) (fault_from touched.read Reading old mid new steady read))
+      by : FailsToRead touched.read mid new ⊎ FailedAt touched.written Writing mid new → FailsToRead (certificate_in command) old new ⊎ FailedAt (target_of command) Writing old new
+      by (inl read) = inl (subst (λ o. FailsToRead o old new) (sym over.read) (fault_from touched.read Reading old mid new steady read.0, leaves_from old mid new reads.leaves read.1))
       by (inr written) = inr (subst (λ o. FailedAt o Writing old new) (sym over.written) (fault_from touched.written Writing old mid new steady written))
 
   produces : (r : Expected) → MayGo certificate_failed (search_limit stack) touched (UnlessRefused (search_limit stack) (Follows goes.file stack)) (at mid before) (at new after) r → MayProduce command inputs (at old before) (at new after) r
@@ -209,7 +212,7 @@ module _ (command : Option CommandView) (dicts : List (List ℕ)) (touched : Tou
   })
 
   leaves : writes command ≡ false → LeavesFiles old new
-  leaves none = let later = goes.unchanged (not_written command touched.written over.written none) in record { held = later.held ∙ reads.leaves.held; writing = later.writing ∙ reads.leaves.writing }
+  leaves none = leaves_from old mid new reads.leaves (goes.unchanged (not_written command touched.written over.written none))
 
   opened : OpensNamed command old new
   opened = by goes.opened
@@ -253,7 +256,7 @@ pub record IsAlone (command : Option CommandView) (line : RefusalView) (touched 
   pub written : target_of command ≡ touched.written
   pub reads : reads_files command ≡ true
   pub needs : needs_memory command ≡ true
-  pub fails : (inputs : Inputs) (old new : FilesView) → inputs.dictionaries ≡ [] → FailedAt touched.read Reading old new ⊎ FailedAt touched.written Writing old new → FileFailed command inputs old new line
+  pub fails : (inputs : Inputs) (old new : FilesView) → inputs.dictionaries ≡ [] → FailsToRead touched.read old new ⊎ FailedAt touched.written Writing old new → FileFailed command inputs old new line
   pub expected : (inputs : Inputs) (result : Expected) → Follows inputs.file result → IsExpected inputs command result
 
 module _ (command : Option CommandView) (line : RefusalView) (touched : Touched) (Follows : Option (List ℕ) → Expected → Type 0) (alone : IsAlone command line touched Follows)

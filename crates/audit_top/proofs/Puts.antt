@@ -1,5 +1,5 @@
 -- Two texts that are put one after the other.
-use Rattle.std.proofs.Common.{ℕ, ◌+◌, ◌≡◌, ◌≤◌, ◌∙◌, List, [], ◌++◌, ap, sym, refl, length, length-append, take, Option, Result, Ok, Err, arith, subst, true≢false}
+use Rattle.std.proofs.Common.{ℕ, ◌+◌, ◌≡◌, ◌≤◌, ◌∙◌, List, ◌++◌, ap, sym, refl, length, length-append, take, Option, Result, Ok, Err, arith, subst, true≢false}
 use Rattle.std.specs.Io.KnownBytes.{append_known}
 use Rattle.std.proofs.lemmas.List.{take-append-le}
 use Rattle.std.proofs.Math.Seq.{take-append-add}

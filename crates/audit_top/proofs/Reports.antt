@@ -37,7 +37,6 @@ use Rattle.outline_trie.specs.declared.trie.TheConstants.Trie.{MAX_NODES}
 use Rattle.audit_top.specs.Outcomes.{Expected, UnlessRefused, prints, trie_limit, search_limit}
 use Rattle.audit_top.specs.Translated.{IsReplay}
 use Rattle.audit_top.specs.Audited.{Made, PrintsConflicts, reached_count, summary_by, summary_of}
-use Rattle.audit_top.specs.Statuses.{audit_status}
 use Rattle.audit_top.specs.Runs.{OutputView}
 use Rattle.audit_top.specs.inside.Answers.{Answers}
 use Rattle.audit_top.specs.inside.Stops.{refusal_of_strokes, refusal_of_trie, stop_of, refusal_of_numbers}

@@ -12,12 +12,13 @@ use Rattle.dict_files.specs.DictFiles.{bytes_of, file_of}
 use Rattle.dict_files.specs.Loading.{IsFailed, IsLoadCause, IsLoaded, IsRefused, is_load_failed}
 use Rattle.dict_files.specs.declared.faults.LoadFault.{LoadFault}
 use Rattle.dict_files.specs.declared.faults.LoadFault.TheVariants as load
-use Rattle.commands.specs.Commands.{CommandView, audit, audit_json, explain, parse, replay, settled}
+use Rattle.commands.specs.Commands.{CommandView, audit, audit_json, brief_outlines, explain, parse, replay, settled, try_briefs}
 use Rattle.commands.specs.Inputs.{dictionaries_in, file_in, reads_files}
 use Rattle.audit_top.specs.Outcomes.{Expected, Inputs, OverStack, UnlessRefused, refused, trie_limit, search_limit}
 use Rattle.audit_top.specs.Translated.{IsExplained, IsReplay}
 use Rattle.audit_top.specs.Audited.{IsAudit, IsAuditJson}
 use Rattle.audit_top.specs.Parsed.{IsParse}
+use Rattle.audit_top.specs.Tried.{IsTry}
 use Rattle.audit_top.specs.Kept.{IsSettled}
 use Rattle.audit_top.specs.Expected.{IsExpected}
 use Rattle.audit_top.specs.Runs.{AreInputs, FailsNamed, MayProduce, OpensNamed, OutputView, World, Writes}
@@ -178,10 +179,10 @@ module _ (command : Option CommandView) (dicts : List (List ℕ)) (base : HasSta
   unfolding inputs_of
   load_failed file old new out is reads =
       let failed : ReadingFailed (dictionaries_in command) is.contents old new file = subst (λ ds. ReadingFailed ds is.contents old new file) (sym base.dictionaries) is.failed in
-      read_answer is.contents old new out out (Err (of.Dictionaries (load.Failed file))) is.read reads (inr (record { refusal = file_failed file; failed = inl failed })) (λ e. absurd (failed_differs file (same_reason (of.Dictionaries (load.Failed file)) of.Memory (Err (of.Dictionaries (load.Failed file))) refl e)))
+      read_answer is.contents old new out out (Err (of.Dictionaries (load.Failed file))) is.read reads (inr (record { refusal = file_failed file; failed = inl (failed, reads.leaves) })) (λ e. absurd (failed_differs file (same_reason (of.Dictionaries (load.Failed file)) of.Memory (Err (of.Dictionaries (load.Failed file))) refl e)))
       (record {
         result = refused (file_failed file);
-        may = inr (record { refusal = file_failed file; failed = inl failed; status_is = refl; text_is = refl; file = tt });
+        may = inr (record { refusal = file_failed file; failed = inl (failed, reads.leaves); status_is = refl; text_is = refl; file = tt });
         ends = refl;
         line = refl;
         out = refl;
@@ -285,6 +286,12 @@ is-audit_json workers dicts = record {
 pub is-parse : (workers : ℕ) (dicts : List (List ℕ)) → IsOver (Some (parse workers dicts)) dicts search_limit IsParse
 is-parse workers dicts = record {
   base = record { dictionaries = refl; reads = refl; needs = refl; refused = λ inputs refusal first. refused-stack search_limit IsParse dicts inputs.dictionaries refusal first };
+  expected = λ inputs r is. is;
+}
+
+pub is-try : (workers : ℕ) (briefs : List ℕ) (dicts : List (List ℕ)) → IsOver (Some (try_briefs workers briefs dicts)) dicts search_limit (IsTry (brief_outlines briefs))
+is-try workers briefs dicts = record {
+  base = record { dictionaries = refl; reads = refl; needs = refl; refused = λ inputs refusal first. refused-stack search_limit (IsTry (brief_outlines briefs)) dicts inputs.dictionaries refusal first };
   expected = λ inputs r is. is;
 }
 

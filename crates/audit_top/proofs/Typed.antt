@@ -1,5 +1,5 @@
 -- What is known of outlines that are typed one after another.
-use Rattle.std.proofs.Common.{ℕ, ◌+◌, ◌<◌, ◌≤◌, ◌≡◌, ◌∙◌, List, [], ◌∷◌, ◌++◌, get_or, length, map, sum, sum_by, take, ap, ap₂, refl, sym, subst, Option, Some, None, Bool, true, false, true≢false, arith, nat_lt, ◌&&◌, ◌^◌}
+use Rattle.std.proofs.Common.{ℕ, ◌+◌, ◌<◌, ◌≡◌, ◌∙◌, List, [], ◌∷◌, ◌++◌, get_or, length, map, sum, sum_by, take, ap, ap₂, refl, sym, subst, Option, Some, None, Bool, true, false, true≢false, arith, nat_lt, ◌&&◌, ◌^◌}
 use Rattle.std.specs.Prelude.{is_some, unwrap_or}
 use Rattle.std.specs.List.{concat, list_all}
 use Rattle.std.proofs.lemmas.Bool.{and_parts}

@@ -18,13 +18,15 @@ use Rattle.audit_top.proofs.Keeping.{settled-once}
 use Rattle.audit_top.specs.Listed.{IsListed, IsRows, ListsRows, bytes_limit, rows_result}
 use Rattle.audit_top.specs.Parsed.{IsParse}
 use Rattle.audit_top.proofs.Parsing.{parsed-once}
+use Rattle.audit_top.specs.Tried.{IsTry, TriesBriefs, briefs_limit}
+use Rattle.audit_top.proofs.Trying.{tries-once}
 use Rattle.std.proofs.Common.{ℕ, ◌≡◌, ◌∙◌, List, [], sym, refl, Option, Some, None, inl, inr, ◌∷◌, All, AllPairs, Contains, ap, ap₂, subst, arith, map, false, true≢false, IsSome}
 use Rattle.dict_json.specs.Generated.{generated_text}
 use Rattle.dict_stack.specs.Stacks.{StackView}
 use Rattle.dict_files.specs.Refusals.{dictionaries_refusal, first_of, stack_from}
 use Rattle.report.specs.Refusals.{RefusalView, not_words}
 use Rattle.report.specs.Replays.{replay_text}
-use Rattle.commands.specs.Commands.{CommandView, replay, explain, audit, audit_json, rows, audit_to, check, upgrade, settled, parse, generate, audit_generated}
+use Rattle.commands.specs.Commands.{CommandView, brief_outlines, replay, explain, audit, audit_json, rows, audit_to, check, upgrade, settled, parse, try_briefs, generate, audit_generated}
 use Rattle.commands.specs.Inputs.{searches}
 use Rattle.audit_top.specs.Outcomes.{Expected, Inputs, OverStack, UnlessRefused, prints, refused, trie_limit, search_limit}
 use Rattle.audit_top.specs.Translated.{IsExplained, IsReplay, all_typed, typed_parts, typed_strokes, typed_text}
@@ -34,7 +36,6 @@ use Rattle.certificate_laws.specs.Checks.{too_long}
 use Rattle.certificate_laws.specs.Validity.{check_outcome}
 use Rattle.cert_check.specs.Verdicts.{closure_at}
 use Rattle.audit_top.specs.Expected.{IsExpected, IsTold}
-use Rattle.audit_top.specs.Statuses.{audit_status}
 use Rattle.audit_top.specs.declared.status.Status.TheVariants.{Clean}
 
 -- ---- rising lists
@@ -159,6 +160,9 @@ listed_once bytes a b ha hb = unless_once (bytes_limit bytes) (ListsRows bytes) 
     by : (a b : Expected) → ListsRows bytes a → ListsRows bytes b → a ≡ b
     by a b la lb = la.produces ∙ ap rows_result (one_outcome (reading bytes) la.outcome lb.outcome la.is lb.is) ∙ sym lb.produces
 
+tried_once : (briefs : List (List ℕ)) (stack : StackView) (a b : Expected) → IsTry briefs stack a → IsTry briefs stack b → a ≡ b
+tried_once briefs stack a b ha hb = unless_once (briefs_limit briefs stack) (TriesBriefs briefs stack) a b (tries-once briefs stack) ha hb
+
 pub expected-once : (inputs : Inputs) (command : Option CommandView) (a b : Expected) → IsTold command inputs → IsExpected inputs command a → IsExpected inputs command b → a ≡ b
 expected-once inputs None a b told ha hb = ha ∙ sym hb
 expected-once inputs (Some (replay outline dicts)) a b told ha hb = over_once trie_limit (IsReplay outline) dicts inputs.dictionaries a b (λ s a b x y. x ∙ sym y) ha hb
@@ -183,6 +187,8 @@ expected-once inputs (Some (upgrade certificate target)) a b told ha hb = by inp
     by (Some bytes) told ha hb = ha ∙ sym hb
 expected-once inputs (Some (settled workers dicts)) a b told ha hb = over_once search_limit IsSettled dicts inputs.dictionaries a b settled-once ha hb
 expected-once inputs (Some (parse workers dicts)) a b told ha hb = over_once search_limit IsParse dicts inputs.dictionaries a b parsed-once ha hb
+expected-once inputs (Some (try_briefs workers briefs dicts)) a b told ha hb =
+    over_once search_limit (IsTry (brief_outlines briefs)) dicts inputs.dictionaries a b (tried_once (brief_outlines briefs)) ha hb
 expected-once inputs (Some (generate start count)) a b told ha hb = ha ∙ sym hb
 expected-once inputs (Some (audit_generated start count workers)) a b told ha hb =
     let stack : StackView = generated_stack start count in
@@ -228,5 +234,6 @@ expected-some inputs (Some (check certificate dicts)) plain = over_some search_l
 expected-some inputs (Some (upgrade certificate target)) plain = upgrade_some target inputs.file
 expected-some inputs (Some (settled workers dicts)) plain = absurd (true≢false plain)
 expected-some inputs (Some (parse workers dicts)) plain = absurd (true≢false plain)
+expected-some inputs (Some (try_briefs workers briefs dicts)) plain = absurd (true≢false plain)
 expected-some inputs (Some (audit_generated start count workers)) plain = absurd (true≢false plain)
 expected-some inputs (Some (generate start count)) plain = (prints Clean (generated_text start count), refl)

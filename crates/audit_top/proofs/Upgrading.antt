@@ -1,13 +1,11 @@
 -- What `upgrade` returns.
-use Rattle.std.proofs.Common.{ℕ, ◌≡◌, ◌≤◌, ◌∙◌, ◌⊎◌, inl, inr, List, [], ap, sym, subst, refl, length, take, Option, Some, None, IfSome, IsSome, Result, Ok, Err, Bool, true, false, true≢false}
+use Rattle.std.proofs.Common.{ℕ, ◌≡◌, ◌∙◌, inl, inr, List, [], ap, sym, subst, refl, length, take, Option, Some, None, IfSome, Result, Ok, Err, true, false}
 use Rattle.std.specs.Io.KnownBytes.{append_known}
 use Rattle.std.proofs.Math.Seq.{take-length}
-use Rattle.outside.specs.Faults.{Rose}
-use Rattle.outside.specs.Files.{Both, FaultAt, FilesView, Held, IsLastOpened, LeavesFiles, Replaces}
+use Rattle.outside.specs.Files.{Both, FilesView, Held, LeavesFiles, Replaces}
 use Rattle.outside.specs.Sink.{AppendsPrefix, Puts}
 use Rattle.outside.specs.declared.fault.OutsideFault.{OutsideFault}
 use Rattle.outside.specs.declared.fault.OutsideFault.TheVariants as out_of
-use Rattle.outside.specs.declared.fault.Way.TheVariants.{Reading, Writing}
 use Rattle.report.specs.Refusals.{RefusalView, certificate_failed, certificate_too_long, refusal_text}
 use Rattle.report.specs.Refusals as of_line
 use Rattle.certificate_laws.specs.Checks.{CheckOutcome, accepted, rejected, too_long}
@@ -17,9 +15,9 @@ use Rattle.cert_check.specs.declared.faults.CheckFault.TheVariants as fault
 use Rattle.cert_upgrade.specs.Forms.{upgrade_outcome}
 use Rattle.cert_upgrade.specs.Upgrades.{IsPartWritten, IsPrefixWritten, IsUpgradeCause, IsUpgraded, UpgradesFile, WritesUpgrade, is_refusing, upgraded_text}
 use Rattle.commands.specs.Commands.{upgrade}
-use Rattle.audit_top.specs.Upgraded.{IsSomeUpgrade, IsUpgrade, upgrade_result, upgraded_line}
-use Rattle.audit_top.specs.Outcomes.{Expected, Inputs, Written, refused}
-use Rattle.audit_top.specs.Runs.{CertificateFailed, FailedAt, FileFailed, IsFilePart, OutputView, World, Writes, stack_refusal}
+use Rattle.audit_top.specs.Upgraded.{IsUpgrade, upgrade_result, upgraded_line}
+use Rattle.audit_top.specs.Outcomes.{Expected, Written, refused}
+use Rattle.audit_top.specs.Runs.{IsFilePart, OutputView, World, Writes, stack_refusal}
 use Rattle.audit_top.specs.Statuses.{refusal_status}
 use Rattle.audit_top.specs.inside.Answers.{Begun, FailsBehind, Goes, IsAnswered, IsStopped, MayGo, Touched}
 use Rattle.audit_top.specs.inside.Stops.{by_refusal, refusal_of_check, refusal_of_report, stop_of}

@@ -1,9 +1,8 @@
 -- What an audit returns that writes its certificate before its report.
-use Rattle.std.proofs.Common.{ℕ, ◌≡◌, ◌≤◌, ◌<◌, ◌∙◌, ◌⊎◌, inl, inr, List, ap, ap₂, sym, subst, refl, arith, length, take, Option, Some, None, IfSome, Result, Ok, Err, Bool, true, false, true≢false, cond, nat_lt}
+use Rattle.std.proofs.Common.{ℕ, ◌≡◌, ◌≤◌, ◌<◌, ◌∙◌, inl, inr, List, ap, ap₂, sym, subst, refl, arith, length, take, Option, Some, None, IfSome, Result, Ok, Err, Bool, true, false, cond, nat_lt}
 use Rattle.std.specs.Io.KnownBytes.{append_known}
 use Rattle.std.proofs.Math.Seq.{take-length}
 use Rattle.std.proofs.lemmas.Bool.Decides.{nat_tests}
-use Rattle.outside.specs.Faults.{Rose}
 use Rattle.outside.specs.Files.{Both, FaultAt, FilesView, Held, Replaces}
 use Rattle.outside.specs.Sink.{AppendsPrefix, Puts}
 use Rattle.outside.specs.declared.fault.OutsideFault.{OutsideFault}
@@ -21,7 +20,7 @@ use Rattle.audit_certificate.specs.OwnCertificates.{own_certificate}
 use Rattle.audit_certificate.specs.Written.{IsCutShort, LeavesFile, WritesFile, fitting_text, own_certificate_lines}
 use Rattle.audit_certificate.proofs.Fitting.{fitting_all}
 use Rattle.dict_stack.specs.Stacks.{StackView}
-use Rattle.report.specs.Refusals.{RefusalView, certificate_failed, certificate_too_long, refusal_text}
+use Rattle.report.specs.Refusals.{certificate_failed, certificate_too_long, refusal_text}
 use Rattle.commands.specs.Commands.{audit_to}
 use Rattle.audit_top.specs.Audited.{IsAuditTo, report_alone, report_and_certificate, report_or_limit}
 use Rattle.audit_top.specs.Outcomes.{Expected, Written, refused, search_limit}

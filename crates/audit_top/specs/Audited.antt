@@ -4,7 +4,7 @@
 --     IsAuditJson stack result             the report as JSON
 --     IsAuditTo name stack result          the report, and the certificate in the file of this name
 --     IsAuditGenerated start count result  the counts alone, of the generated dictionary
-use Rattle.std.specs.Prelude.{ℕ, ◌≡◌, List, [], ◌∷◌, true, not, nat_eq, nat_lt, if◌then◌else◌, length, filter, Option, Some, None}
+use Rattle.std.specs.Prelude.{ℕ, ◌≡◌, List, [], ◌∷◌, true, not, nat_eq, nat_lt, if◌then◌else◌, length, filter, Option, Some}
 use Rattle.graph_rules.specs.Graphs.{unreached}
 use Rattle.steno_rules.specs.ClosureGraphs.{kept_lists}
 use Rattle.dict_json.specs.Generated.{generated_text}

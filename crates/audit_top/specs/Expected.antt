@@ -1,10 +1,10 @@
 -- What a run is expected to produce: the status with which it ends, the text that it adds to the output, and the file that it writes.
 --     IsExpected inputs command result     this is expected of a run of the command on these inputs
 --     IsTold command inputs                the bytes of all files that the command reads are known
--- What each command promises stands in `Translated`, `Audited`, `Kept`, `Listed`, `Parsed`, `Checked` and `Upgraded`. A new command adds its line here.
+-- What each command promises stands in `Translated`, `Audited`, `Kept`, `Listed`, `Parsed`, `Tried`, `Checked` and `Upgraded`. A new command adds its line here.
 use Rattle.std.specs.Prelude.{◌≡◌, Option, Some, None, IfSome, IsSome}
 use Rattle.commands.specs.Inputs.{file_in}
-use Rattle.commands.specs.Commands.{CommandView, replay, explain, audit, audit_json, rows, audit_to, check, upgrade, settled, parse, generate, audit_generated}
+use Rattle.commands.specs.Commands.{CommandView, brief_outlines, replay, explain, audit, audit_json, rows, audit_to, check, upgrade, settled, parse, try_briefs, generate, audit_generated}
 use Rattle.report.specs.Refusals.{not_words}
 use Rattle.audit_top.specs.Outcomes.{Expected, Inputs, OverStack, refused, search_limit, trie_limit}
 use Rattle.audit_top.specs.Translated.{IsExplained, IsGenerated, IsReplay}
@@ -13,6 +13,7 @@ use Rattle.audit_top.specs.Parsed.{IsParse}
 use Rattle.audit_top.specs.Kept.{IsSettled}
 use Rattle.audit_top.specs.Listed.{IsRows}
 use Rattle.audit_top.specs.Checked.{IsCheck}
+use Rattle.audit_top.specs.Tried.{IsTry}
 use Rattle.audit_top.specs.Upgraded.{IsUpgrade}
 
 abbrev pub IsExpected : Inputs → Option CommandView → Expected → Type 0
@@ -36,6 +37,8 @@ IsExpected inputs (Some (settled workers dicts)) result =
     OverStack search_limit IsSettled dicts inputs.dictionaries result
 IsExpected inputs (Some (parse workers dicts)) result =
     OverStack search_limit IsParse dicts inputs.dictionaries result
+IsExpected inputs (Some (try_briefs workers briefs dicts)) result =
+    OverStack search_limit (IsTry (brief_outlines briefs)) dicts inputs.dictionaries result
 IsExpected inputs (Some (generate start count)) result = IsGenerated start count result
 IsExpected inputs (Some (audit_generated start count workers)) result =
     IsAuditGenerated start count result

@@ -1,6 +1,6 @@
 -- What is expected of `settled`.
 --     IsSettled stack result     the rows are exactly the pairs that stay
-use Rattle.std.specs.Prelude.{ℕ, ◌≡◌, List}
+use Rattle.std.specs.Prelude.{◌≡◌, List}
 use Rattle.steno_rules.specs.ClosureGraphs.{kept_lists}
 use Rattle.dict_stack.specs.Stacks.{StackView}
 use Rattle.longest_match.specs.Rows.{Row}

@@ -5,6 +5,7 @@ pub mod Audited
 pub mod Listed
 pub mod Kept
 pub mod Parsed
+pub mod Tried
 pub mod Checked
 pub mod Upgraded
 pub mod Expected

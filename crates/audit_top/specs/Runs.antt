@@ -47,23 +47,28 @@ abbrev pub FailedAt : Option (List ℕ) → Way → FilesView → FilesView → 
 FailedAt None way old new = ⊥
 FailedAt (Some name) way old new = FaultAt name way old new
 
+-- reading this file failed in this call, and no file has changed
+abbrev pub FailsToRead : Option (List ℕ) → FilesView → FilesView → Type 0
+FailsToRead name old new = FailedAt name Reading old new × LeavesFiles old new
+
 -- the dictionaries are refused, or their stack is over a limit of searching
 abbrev pub stack_refusal : List (List ℕ) → List (List ℕ) → Option RefusalView
 stack_refusal args contents =
     first_of (dictionaries_refusal args contents) (search_limit (stack_from args contents))
 
--- the certificate failed, as it was read or as it was written
+-- the certificate failed, as it was read, and then no file has changed, or as it was written
 pub record CertificateFailed (command : Option CommandView) (inputs : Inputs)
     (old new : FilesView) : Type 0 where
   pub accepted : stack_refusal (dictionaries_in command) inputs.dictionaries ≡ None
-  pub failed : FailedAt (certificate_in command) Reading old new
+  pub failed : FailsToRead (certificate_in command) old new
       ⊎ FailedAt (target_of command) Writing old new
 
--- a file that the command names failed in this call, after everything before it was accepted, and this is its line
+-- a file that the command names failed in this call, after everything before it was accepted, and this is its line; no file has
+-- changed unless it was the one that is written
 abbrev pub FileFailed : Option CommandView → Inputs → FilesView → FilesView → RefusalView → Type 0
 FileFailed command inputs old new (file_failed file) =
-    ReadingFailed (dictionaries_in command) inputs.dictionaries old new file
-    ⊎ ((file ≡ 1) × FailedAt (report_in command) Reading old new)
+    (ReadingFailed (dictionaries_in command) inputs.dictionaries old new file × LeavesFiles old new)
+    ⊎ ((file ≡ 1) × FailsToRead (report_in command) old new)
 FileFailed command inputs old new certificate_failed = CertificateFailed command inputs old new
 FileFailed command inputs old new refusal = ⊥
 

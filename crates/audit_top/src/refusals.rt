@@ -4,10 +4,11 @@ ghost use Rattle.std.specs.Prelude.{◌≡◌};
 ghost use Rattle.report.specs.Refusals.{refusal_of};
 ghost use Rattle.audit_top.specs.Runs.{output};
 ghost use Rattle.audit_top.specs.Statuses.{refusal_status};
-ghost use Rattle.audit_top.specs.inside.Stops.{refusal_of_cert, refusal_of_check, refusal_of_json, refusal_of_load, refusal_of_numbers, refusal_of_read, refusal_of_report, refusal_of_stack, refusal_of_strokes, refusal_of_trie, stop_of};
+ghost use Rattle.audit_top.specs.inside.Stops.{refusal_of_cert, refusal_of_check, refusal_of_json, refusal_of_load, refusal_of_numbers, refusal_of_read, refusal_of_report, refusal_of_stack, refusal_of_strokes, refusal_of_trial, refusal_of_trie, stop_of};
 ghost use Rattle.audit_top.specs.inside.Endings.{EndsLine, EndsMemory, EndsStop, Finishes};
 
 use crate::status::Status;
+use brief_trial::TrialFault;
 use cert_check::CheckFault;
 use certificate::CertFault;
 use dict_files::LoadFault;
@@ -139,6 +140,20 @@ impl From<TrieFault> for Refusal {
         match fault {
             TrieFault::TooManyNodes { count } => Refusal::Nodes { count },
             TrieFault::Memory => Refusal::Memory,
+        }
+    }
+}
+
+/// Of the stack on which a brief is tried.
+impl From<TrialFault> for Refusal {
+    ghost from_gives = { λ fault refusal. refusal ≡ refusal_of_trial fault };
+
+    fn from(fault: TrialFault) -> Refusal {
+        match fault {
+            TrialFault::Entries { count } => Refusal::Dictionaries(LoadFault::Entries { count }),
+            TrialFault::Nodes { count } => Refusal::Nodes { count },
+            TrialFault::States { count } => Refusal::States { count },
+            TrialFault::Memory => Refusal::Memory,
         }
     }
 }

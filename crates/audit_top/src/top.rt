@@ -5,7 +5,7 @@ ghost use Rattle.commands.specs.Commands.{command_view};
 ghost use Rattle.commands.specs.Inputs.{searches};
 ghost use Rattle.commands.specs.Reading.{command_of};
 ghost use Rattle.audit_top.specs.Headline.{Headline};
-ghost use Rattle.audit_top.specs.Promises.{Explains, Keeps, Lists, Reads, Tells, Upgrades, Verifies};
+ghost use Rattle.audit_top.specs.Promises.{Explains, Keeps, Lists, Reads, Tells, Tries, Upgrades, Verifies, Certifies};
 ghost use Rattle.audit_top.specs.Runs.{IsRun, world};
 ghost use Rattle.audit_top.specs.inside.Answers.{IsAnswer};
 ghost use Rattle.commands.specs.Written.{IsWritten};
@@ -22,6 +22,7 @@ use crate::replay::replay;
 use crate::rows::rows;
 use crate::settled::settled;
 use crate::status::Status;
+use crate::tries::tries;
 use crate::upgrade::upgrade;
 use commands::{Command, read_words};
 use outside::{Files, Sink};
@@ -68,6 +69,7 @@ fn answer_plain<F: Files, S: Sink>(
         | Command::AuditTo { .. }
         | Command::Settled { .. }
         | Command::Parse { .. }
+        | Command::Try { .. }
         | Command::AuditGenerated { .. } => unreachable!(),
     }
 }
@@ -113,6 +115,11 @@ fn answer_command<R: Threads + Wait + Sync, F: Files, S: Sink, K: Gate + Sync>(
             workers,
             files: dicts,
         } => { parse(rt, alloc, workers, dicts, files, out, gate) }
+        Command::Try {
+            workers,
+            briefs,
+            files: dicts,
+        } => { tries(rt, alloc, workers, briefs, dicts, files, out, gate) }
         Command::Replay { .. }
         | Command::Explain { .. }
         | Command::Rows { .. }
@@ -225,7 +232,10 @@ pub fn run_plain<F: Files, S: Sink>(
 ///
 /// What is expected of a run is a relation on the arguments and on what the files hold: a status, a text that is added to the
 /// output, and for some commands a file that is written. The run ends so; or a named file failed, and its line is added; or the
-/// output failed or memory ran out, and a prefix is.
+/// output failed or memory ran out, and a prefix is. Where a file couldn't be read, no file has changed.
+///
+/// Where `audit-to` ends with [`Status::Clean`] or [`Status::Conflicts`], the file CERT has a valid certificate, which `check`
+/// accepts. Its rows are exactly the conflicts, and those of the report.
 pub fn run<R: Threads + Wait + Sync, F: Files, S: Sink, K: Gate + Sync>(
     rt: &R,
     alloc: Global,
@@ -251,10 +261,15 @@ pub fn run<R: Threads + Wait + Sync, F: Files, S: Sink, K: Gate + Sync>(
         Upgrades (command_of (map string_bytes args.now)) before after result }
     ensures tells { let command = command_of (map string_bytes args.now) in
         Tells command (F.view files.old).held (S.text out.old) (S.text out.new) result }
+    ensures certifies { let before = world (F.view files.old) (S.text out.old) (S.faults out.old) in
+        let after = world (F.view files.new) (S.text out.new) (S.faults out.new) in
+        Certifies (command_of (map string_bytes args.now)) before after result }
     ensures keeps { let command = command_of (map string_bytes args.now) in
         Keeps command (F.view files.old).held (S.text out.old) (S.text out.new) result }
     ensures reads { let command = command_of (map string_bytes args.now) in
         Reads command (F.view files.old).held (S.text out.old) (S.text out.new) result }
+    ensures tries { let command = command_of (map string_bytes args.now) in
+        Tries command (F.view files.old).held (S.text out.old) (S.text out.new) result }
 {
     run_given(rt, alloc, args, files, out, gate)
 }

@@ -260,7 +260,7 @@ pub opens_only : (source target : List ℕ) (failed : Bool) (old new : FilesView
 opens_only source target failed old new opens = record {
   opened = opens.opened;
   later = opens.later;
-  fault = λ e. inl (record { rose = opens.rose e; place = opens.latest ∙ ap (λ b. cond b (Some (source, Reading)) old.latest) e });
+  fault = λ e. inl (record { rose = opens.rose e; place = opens.latest ∙ ap (λ b. cond b (Some (source, Reading)) old.latest) e }, opens.leaves);
   latest = λ e. opens.latest ∙ ap (λ b. cond b (Some (source, Reading)) old.latest) e;
   steady = opens.steady;
 }

@@ -10,7 +10,7 @@ use Rattle.graph_rules.specs.Graphs.{most_numbers}
 use Rattle.steno_rules.specs.Outlines.{AreEntries}
 use Rattle.steno_rules.specs.StateNumbers.{number_count}
 use Rattle.outside.specs.Faults.{Steady}
-use Rattle.outside.specs.Files.{Both, FaultAt, FilesView, Held, IsLastOpened, Replaces}
+use Rattle.outside.specs.Files.{Both, FaultAt, FilesView, Held, IsLastOpened, LeavesFiles, Replaces}
 use Rattle.outside.specs.declared.fault.Way.TheVariants.{Reading, Writing}
 use Rattle.certificate.specs.declared.lines.CertLine.{CertLine}
 use Rattle.certificate.specs.CertLines.{line_text}
@@ -92,10 +92,15 @@ abbrev pub IsPartWritten : List ℕ → List ℕ → Option Held → Option Held
 IsPartWritten source target old new =
     (new ≡ old) ⊎ ((n : ℕ) × Both (IsPrefixWritten source target n) old new)
 
+-- reading the source failed, and no file has changed; or writing the target failed
+abbrev pub FailsOnFile : List ℕ → List ℕ → FilesView → FilesView → Type 0
+FailsOnFile source target old new =
+    (FaultAt source Reading old new × LeavesFiles old new) ⊎ FaultAt target Writing old new
+
 -- the source may be the name last opened then; a fault is on reading the source or on writing the target
 pub record UpgradesFile (source target : List ℕ) (failed : Bool) (old new : FilesView) : Type 0 where
   pub opened : IsLastOpened source old new
   pub later : old.faults ≤ new.faults
-  pub fault : failed ≡ true → FaultAt source Reading old new ⊎ FaultAt target Writing old new
+  pub fault : failed ≡ true → FailsOnFile source target old new
   pub latest : failed ≡ false → new.latest ≡ old.latest
   pub steady : Steady failed old.faults new.faults

@@ -55,8 +55,9 @@ fn rewrite<F: Files>(
 ///
 /// The source is read to its end, and its form found right, before the target is begun. `Rejected` says which line is
 /// the first whose form is wrong, and why; then the certificate is valid for no stack. `TooLong` comes for more than
-/// 1,073,741,824 bytes. After both no file has changed. After `Failed` and `Memory` the target may have a prefix of
-/// the new certificate. A fault, the limit and memory are told at the place in the file at which they are met.
+/// 1,073,741,824 bytes. After both no file has changed, and neither where reading the source failed. Where writing
+/// the target failed or memory ran out, it may have a prefix of the new certificate. A fault, the limit and memory are
+/// told at the place in the file at which they are met.
 ///
 /// Memory holds a line for each run and each row. The cost is linear in the bytes.
 pub fn upgrade<F: Files>(

@@ -1,6 +1,6 @@
 -- The arguments that the function takes for a command are those that are written so.
-use Rattle.std.proofs.Common.{ℕ, ◌+◌, ◌-◌, ◌<◌, ◌≤◌, ◌≡◌, ◌^◌, ◌∙◌, ◌++◌, ◌&&◌, List, [], ◌∷◌, Bool, true, false, true≢false, cond, refl, subst, sym, ap, ap₂, arith, All, Option, Some, None, length, take, drop, get_or, option_map, not, zero, suc, nat_lt}
-use Rattle.std.specs.Prelude.{option_and_then, codes, decimal, position, is_some}
+use Rattle.std.proofs.Common.{ℕ, ◌+◌, ◌-◌, ◌<◌, ◌≤◌, ◌≡◌, ◌^◌, ◌∙◌, ◌++◌, ◌&&◌, List, [], ◌∷◌, Bool, true, false, true≢false, cond, refl, subst, sym, ap, ap₂, arith, Option, Some, None, length, take, drop, get_or, option_map, nat_lt}
+use Rattle.std.specs.Prelude.{option_and_then, codes, decimal, position}
 use Rattle.std.specs.Str.{bytes_eq}
 use Rattle.std.specs.List.{list_all, position_or_len, AllByRecursion}
 use Rattle.std.proofs.lemmas.Bool.{and_parts}
@@ -17,8 +17,9 @@ use Rattle.text_rules.specs.Decimals.{decimal_value}
 use Rattle.text_rules.proofs.Numbers.{decimal-number, number-decimal}
 use Rattle.dict_json.specs.Generated.{most_generated}
 use Rattle.steal_rounds.specs.declared.searches.TheConstants.{MAX_WORKERS}
-use Rattle.commands.specs.Commands.{CommandView, IsCommand, are_files, are_numbers, are_spelt, are_workers, arguments_of, dashes, is_spelt, is_valid, strokes_written, replay, explain, audit, audit_json, rows, audit_to, check, upgrade, settled, parse, generate, audit_generated}
-use Rattle.commands.specs.Reading.{Reader, reader, readers, read_by, command_of, if_valid, replay_of, is_dashes, explain_of, searchers_of, search_of, rows_of, audit_to_of, check_of, upgrade_of, generate_of, audit_generated_of}
+use Rattle.brief_trial.specs.declared.briefs.TheConstants.{MAX_TRIERS}
+use Rattle.commands.specs.Commands.{CommandView, IsCommand, are_files, are_numbers, are_spelt, are_workers, are_trial_workers, are_briefs, arguments_of, dashes, is_spelt, is_valid, strokes_written, replay, explain, audit, audit_json, rows, audit_to, check, upgrade, settled, parse, try_briefs, generate, audit_generated}
+use Rattle.commands.specs.Reading.{Reader, readers, read_by, command_of, if_valid, replay_of, is_dashes, explain_of, searchers_of, search_of, rows_of, audit_to_of, check_of, upgrade_of, try_of, generate_of, audit_generated_of}
 
 valid_is : (c d : CommandView) → if_valid c ≡ Some d → (c ≡ d) × (is_valid d ≡ true)
 valid_is c d h = by (is_valid c) refl h
@@ -120,6 +121,18 @@ upgrade_written (certificate ∷ []) c h = absurd (true≢false cc)
 upgrade_written (certificate ∷ target ∷ []) c h = let v = valid_is (upgrade certificate target) c h in (ap arguments_of v.0, v.1)
 upgrade_written (certificate ∷ target ∷ more ∷ args) c h = absurd (true≢false cc)
 
+try_written : (args : List (List ℕ)) (c : CommandView) → try_of args ≡ Some c → IsCommand (codes "try" ∷ args) c
+try_written [] c h = absurd (true≢false cc)
+try_written (workers ∷ []) c h = absurd (true≢false cc)
+try_written (workers ∷ briefs ∷ dicts) c h = by (decimal_value MAX_TRIERS workers) refl h
+  where
+    by : (n : Option ℕ) → decimal_value MAX_TRIERS workers ≡ n → option_and_then (λ n. if_valid (try_briefs n briefs dicts)) n ≡ Some c → IsCommand (codes "try" ∷ workers ∷ briefs ∷ dicts) c
+    by None is h = absurd (true≢false cc)
+    by (Some n) is h =
+        let v = valid_is (try_briefs n briefs dicts) c h in
+        let read = number-decimal MAX_TRIERS n workers (omega arith) is in
+        (ap (λ w. codes "try" ∷ w ∷ briefs ∷ dicts) read.0 ∙ ap arguments_of v.0, v.1)
+
 generate_written : (args : List (List ℕ)) (c : CommandView) → generate_of args ≡ Some c → IsCommand (codes "generate" ∷ args) c
 generate_written [] c h = absurd (true≢false cc)
 generate_written (start ∷ []) c h = absurd (true≢false cc)
@@ -180,8 +193,11 @@ all_read c = (
                   (
                     λ args h. search_written (λ args. codes "parse" ∷ args) parse is_parse args c h,
                     (
-                      λ args h. generate_written args c h,
-                      (λ args h. audit_generated_written args c h, tt),
+                      λ args h. try_written args c h,
+                      (
+                        λ args h. generate_written args c h,
+                        (λ args h. audit_generated_written args c h, tt),
+                      ),
                     ),
                   ),
                 ),
@@ -220,6 +236,9 @@ count_few start count valid = grind (arith, nat_tests)
 
 workers_few : (workers : ℕ) → are_workers workers ≡ true → workers ≤ MAX_WORKERS
 workers_few workers valid = grind (arith, nat_tests)
+
+trial_workers_few : (workers : ℕ) → are_trial_workers workers ≡ true → workers ≤ MAX_TRIERS
+trial_workers_few workers valid = grind (arith, nat_tests)
 
 searchers_are : (workers : ℕ) (dicts : List (List ℕ)) → are_workers workers && are_files dicts ≡ true → searchers_of (decimal workers ∷ dicts) ≡ Some (workers, dicts)
 searchers_are workers dicts valid =
@@ -281,6 +300,10 @@ command_is (check certificate dicts) valid = if_valid-is (check certificate dict
 command_is (upgrade certificate target) valid = refl
 command_is (settled workers dicts) valid = ap (option_map (λ found. settled found.0 found.1)) (searchers_are workers dicts valid)
 command_is (parse workers dicts) valid = ap (option_map (λ found. parse found.0 found.1)) (searchers_are workers dicts valid)
+command_is (try_briefs workers briefs dicts) valid =
+    let few = trial_workers_few workers (and_parts (are_trial_workers workers) (are_briefs briefs && are_files dicts) valid).0 in
+    ap (option_and_then (λ n. if_valid (try_briefs n briefs dicts))) (decimal-number MAX_TRIERS workers few (omega arith))
+    ∙ if_valid-is (try_briefs workers briefs dicts) valid
 command_is (generate start count) valid =
     let few_s = start_few start count valid in
     let few_n = count_few start count valid in

@@ -1,3 +1,3 @@
-pub mod Values
 pub mod CommandLaw
 pub mod Written
+pub mod BriefTexts

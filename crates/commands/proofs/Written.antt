@@ -1,6 +1,6 @@
 -- What is known of a command that arguments were read as.
 use Rattle.std.proofs.Common.{ℕ, zero, suc, ◌≡◌, ◌<◌, ◌^◌, ◌++◌, IfSome, option_map, sym, List, [], ◌∷◌, length, All, subst, arith, Option, Some, None, map, String, string_bytes, string_len, Global}
-use Rattle.commands.specs.Commands.{CommandView, arguments_of, command_view, dashes, replay, explain, audit, audit_json, rows, audit_to, check, upgrade, settled, parse, generate, audit_generated}
+use Rattle.commands.specs.Commands.{CommandView, arguments_of, command_view, dashes, replay, explain, audit, audit_json, rows, audit_to, check, upgrade, settled, parse, try_briefs, generate, audit_generated}
 use Rattle.commands.specs.Reading.{command_of}
 use Rattle.commands.specs.Written.{ForOutlines, IsWritten}
 use Rattle.commands.specs.declared.command.Command.{Command}
@@ -27,6 +27,7 @@ outlines_short (check certificate dicts) short = tt
 outlines_short (upgrade certificate target) short = tt
 outlines_short (settled workers dicts) short = tt
 outlines_short (parse workers dicts) short = tt
+outlines_short (try_briefs workers briefs dicts) short = short 2 [] (omega arith)
 outlines_short (generate start count) short = tt
 outlines_short (audit_generated start count workers) short = tt
 

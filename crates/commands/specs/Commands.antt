@@ -2,14 +2,18 @@
 --     CommandView           a command, by the bytes of its arguments
 --     IsCommand args c      the arguments are the command c
 --     command_view c        the program's `Command` as this
-use Rattle.std.specs.Prelude.{ℕ, ◌^◌, ◌≡◌, List, [], ◌∷◌, ◌++◌, Bool, true, not, ◌&&◌, nat_lt, nat_le, length, map, sum_by, is_some, Option, string_bytes, codes, decimal}
+--     brief_outlines text   the outlines of briefs with commas between them
+use Rattle.std.specs.Prelude.{ℕ, ◌^◌, ◌≡◌, List, [], ◌∷◌, ◌++◌, Bool, true, not, ◌&&◌, nat_lt, nat_le, length, map, sum_by, is_some, unwrap_or, string_bytes, codes, decimal}
 use Rattle.std.specs.Str.{bytes_eq}
 use Rattle.std.specs.List.{list_all}
+use Rattle.text_rules.specs.Lines.{parts_between}
+use Rattle.steno_rules.specs.Outlines.{most_strokes}
 use Rattle.steno_order.specs.Reading.{spelt_strokes}
 use Rattle.steno_order.specs.Spelling.{parts_of}
 use Rattle.dict_files.specs.DictFiles.{match_prefix}
 use Rattle.dict_json.specs.Generated.{most_generated}
 use Rattle.steal_rounds.specs.declared.searches.TheConstants.{MAX_WORKERS}
+use Rattle.brief_trial.specs.declared.briefs.TheConstants.{MAX_BRIEFS, MAX_TRIERS}
 use Rattle.commands.specs.declared.command.Command.{Command}
 use Rattle.commands.specs.declared.command.Command.TheVariants as of
 
@@ -25,6 +29,7 @@ pub data CommandView : Type 0 where
   upgrade : List ℕ → List ℕ → CommandView
   settled : ℕ → List (List ℕ) → CommandView
   parse : ℕ → List (List ℕ) → CommandView
+  try_briefs : ℕ → List ℕ → List (List ℕ) → CommandView
   generate : ℕ → ℕ → CommandView
   audit_generated : ℕ → ℕ → ℕ → CommandView
 
@@ -49,6 +54,31 @@ are_spelt outlines =
 abbrev pub are_workers : ℕ → Bool
 are_workers n = nat_le 1 n && nat_le n MAX_WORKERS
 
+-- those of a trial are fewer
+abbrev pub are_trial_workers : ℕ → Bool
+are_trial_workers n = nat_le 1 n && nat_le n MAX_TRIERS
+
+-- what stands between two briefs
+abbrev pub comma : ℕ
+comma = 44
+
+-- the text of each brief
+abbrev pub brief_texts : List ℕ → List (List ℕ)
+brief_texts briefs = parts_between comma briefs
+
+-- one readable stroke or more, and not more than an outline has
+abbrev pub is_brief : List ℕ → Bool
+is_brief text = is_spelt text && nat_le (length (parts_of text)) most_strokes
+
+-- one brief or more, and not too many
+abbrev pub are_briefs : List ℕ → Bool
+are_briefs briefs =
+    nat_le (length (brief_texts briefs)) MAX_BRIEFS && list_all is_brief (brief_texts briefs)
+
+-- the outline of each brief
+abbrev pub brief_outlines : List ℕ → List (List ℕ)
+brief_outlines briefs = map (λ text. unwrap_or (spelt_strokes text) []) (brief_texts briefs)
+
 -- a start and a count of a generated dictionary
 abbrev pub are_numbers : ℕ → ℕ → Bool
 are_numbers start count = nat_lt start (2 ^ 64) && nat_le count most_generated
@@ -65,6 +95,8 @@ is_valid (check certificate dicts) = are_files dicts
 is_valid (upgrade certificate target) = true
 is_valid (settled workers dicts) = are_workers workers && are_files dicts
 is_valid (parse workers dicts) = are_workers workers && are_files dicts
+is_valid (try_briefs workers briefs dicts) =
+    are_trial_workers workers && (are_briefs briefs && are_files dicts)
 is_valid (generate start count) = are_numbers start count
 is_valid (audit_generated start count workers) = are_numbers start count && are_workers workers
 
@@ -85,6 +117,7 @@ arguments_of (check certificate dicts) = codes "check" ∷ certificate ∷ dicts
 arguments_of (upgrade certificate target) = codes "upgrade" ∷ certificate ∷ target ∷ []
 arguments_of (settled workers dicts) = codes "settled" ∷ decimal workers ∷ dicts
 arguments_of (parse workers dicts) = codes "parse" ∷ decimal workers ∷ dicts
+arguments_of (try_briefs workers briefs dicts) = codes "try" ∷ decimal workers ∷ briefs ∷ dicts
 arguments_of (generate start count) = codes "generate" ∷ decimal start ∷ decimal count ∷ []
 arguments_of (audit_generated start count workers) =
     codes "audit-generated" ∷ decimal start ∷ decimal count ∷ decimal workers ∷ []
@@ -105,5 +138,7 @@ command_view (of.Check certificate dicts) = check certificate.now (map string_by
 command_view (of.Upgrade certificate target) = upgrade certificate.now target.now
 command_view (of.Settled workers dicts) = settled workers (map string_bytes dicts.now)
 command_view (of.Parse workers dicts) = parse workers (map string_bytes dicts.now)
+command_view (of.Try workers briefs dicts) =
+    try_briefs workers briefs.now (map string_bytes dicts.now)
 command_view (of.Generate start count) = generate start count
 command_view (of.AuditGenerated start count workers) = audit_generated start count workers

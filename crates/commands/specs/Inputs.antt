@@ -7,7 +7,7 @@
 --     target_of c           the file that it writes
 use Rattle.std.specs.Prelude.{ℕ, List, [], Bool, true, false, ◌&&◌, nat_le, length, Option, Some, None, is_some}
 use Rattle.dict_stack.specs.Stacks.{most_dictionaries}
-use Rattle.commands.specs.Commands.{CommandView, replay, explain, audit, audit_json, rows, audit_to, check, upgrade, settled, parse, generate, audit_generated}
+use Rattle.commands.specs.Commands.{CommandView, replay, explain, audit, audit_json, rows, audit_to, check, upgrade, settled, parse, try_briefs, generate, audit_generated}
 
 -- ---- tables
 
@@ -23,6 +23,7 @@ dictionaries_of (check certificate dicts) = dicts
 dictionaries_of (upgrade certificate target) = []
 dictionaries_of (settled workers dicts) = dicts
 dictionaries_of (parse workers dicts) = dicts
+dictionaries_of (try_briefs workers briefs dicts) = dicts
 dictionaries_of (generate start count) = []
 dictionaries_of (audit_generated start count workers) = []
 
@@ -38,6 +39,7 @@ report_of (check certificate dicts) = None
 report_of (upgrade certificate target) = None
 report_of (settled workers dicts) = None
 report_of (parse workers dicts) = None
+report_of (try_briefs workers briefs dicts) = None
 report_of (generate start count) = None
 report_of (audit_generated start count workers) = None
 
@@ -53,6 +55,7 @@ certificate_of (check certificate dicts) = Some certificate
 certificate_of (upgrade certificate target) = Some certificate
 certificate_of (settled workers dicts) = None
 certificate_of (parse workers dicts) = None
+certificate_of (try_briefs workers briefs dicts) = None
 certificate_of (generate start count) = None
 certificate_of (audit_generated start count workers) = None
 
@@ -68,6 +71,7 @@ written_by (check certificate dicts) = None
 written_by (upgrade certificate target) = Some target
 written_by (settled workers dicts) = None
 written_by (parse workers dicts) = None
+written_by (try_briefs workers briefs dicts) = None
 written_by (generate start count) = None
 written_by (audit_generated start count workers) = None
 
@@ -83,6 +87,7 @@ has_workers (check certificate dicts) = false
 has_workers (upgrade certificate target) = false
 has_workers (settled workers dicts) = true
 has_workers (parse workers dicts) = true
+has_workers (try_briefs workers briefs dicts) = true
 has_workers (generate start count) = false
 has_workers (audit_generated start count workers) = true
 
@@ -98,6 +103,7 @@ has_files (check certificate dicts) = true
 has_files (upgrade certificate target) = true
 has_files (settled workers dicts) = true
 has_files (parse workers dicts) = true
+has_files (try_briefs workers briefs dicts) = true
 has_files (generate start count) = false
 has_files (audit_generated start count workers) = false
 

@@ -6,7 +6,8 @@ use Rattle.std.specs.Str.{bytes_eq}
 use Rattle.text_rules.specs.Decimals.{decimal_value}
 use Rattle.dict_json.specs.Generated.{most_generated}
 use Rattle.steal_rounds.specs.declared.searches.TheConstants.{MAX_WORKERS}
-use Rattle.commands.specs.Commands.{CommandView, replay, explain, audit, audit_json, rows, audit_to, check, upgrade, settled, parse, generate, audit_generated, are_files, are_workers, dashes, is_valid}
+use Rattle.brief_trial.specs.declared.briefs.TheConstants.{MAX_TRIERS}
+use Rattle.commands.specs.Commands.{CommandView, replay, explain, audit, audit_json, rows, audit_to, check, upgrade, settled, parse, try_briefs, generate, audit_generated, are_files, are_workers, dashes, is_valid}
 
 -- the command, where its parts are what they have to be
 abbrev pub if_valid : CommandView → Option CommandView
@@ -56,6 +57,12 @@ abbrev pub upgrade_of : List (List ℕ) → Option CommandView
 upgrade_of (certificate ∷ target ∷ []) = if_valid (upgrade certificate target)
 upgrade_of args = None
 
+-- of the workers, the briefs and the dictionaries after `try`
+abbrev pub try_of : List (List ℕ) → Option CommandView
+try_of (workers ∷ briefs ∷ dicts) =
+    option_and_then (λ n. if_valid (try_briefs n briefs dicts)) (decimal_value MAX_TRIERS workers)
+try_of args = None
+
 -- of the two numbers after `generate`
 abbrev pub generate_of : List (List ℕ) → Option CommandView
 generate_of (start ∷ count ∷ []) =
@@ -91,6 +98,7 @@ readers =
     ∷ reader (codes "upgrade") upgrade_of
     ∷ reader (codes "settled") (search_of settled)
     ∷ reader (codes "parse") (search_of parse)
+    ∷ reader (codes "try") try_of
     ∷ reader (codes "generate") generate_of
     ∷ reader (codes "audit-generated") audit_generated_of
     ∷ []

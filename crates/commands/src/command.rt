@@ -53,6 +53,12 @@ pub enum Command<'a> {
         workers: u32,
         files: &'a [String],
     },
+    /// The trial of briefs, which are written with commas between them, by 1 to 4 workers.
+    Try {
+        workers: u32,
+        briefs: &'a str,
+        files: &'a [String],
+    },
     /// The bytes of the generated dictionary of a start and a count of entries.
     Generate {
         start: u64,

@@ -10,7 +10,8 @@ use dict_files::names_file;
 
 /// Whether each of the arguments names a file.
 fn all_name_files(args: &[String]) -> bool
-    ensures { result ≡ list_all (λ arg. not (bytes_eq arg match_prefix)) (map string_bytes args.now) }
+    ensures { result
+        ≡ list_all (λ arg. not (bytes_eq arg match_prefix)) (map string_bytes args.now) }
 {
     for arg in args {
         if !names_file(arg.as_str()) {

@@ -27,7 +27,8 @@ fn has_form(text: &[u8]) -> bool
 
 /// The value of digits, if it is at most this.
 fn value(text: &[u8], most: u64) -> Option<u64>
-    ensures { MatchOption result (most < digits_value text.now) (λ n. (n ≡ digits_value text.now) × (n ≤ most)) }
+    ensures { let value = digits_value text.now in
+        MatchOption result (most < value) (λ n. (n ≡ value) × (n ≤ most)) }
 {
     let mut value: u64 = 0;
     for byte in text {

@@ -2,7 +2,7 @@
 
 ghost use Rattle.std.specs.Prelude.{◌≡◌, ◌<◌, ◌^◌, ◌↔◌, IsTrue, length, map, option_map, position, string_bytes};
 ghost use Rattle.std.specs.List.{list_all};
-ghost use Rattle.steno_order.specs.Spelling.{parts_of};
+ghost use Rattle.text_rules.specs.Lines.{parts_between};
 ghost use Rattle.commands.specs.Commands.{are_spelt, command_view, explain as explain_by, is_spelt, strokes_written};
 ghost use Rattle.commands.specs.Reading.{explain_of, if_valid, is_dashes, replay_of};
 
@@ -40,13 +40,13 @@ fn all_readable(args: &[String]) -> bool
     true
 }
 
-/// How many parts a text has between slashes.
-fn part_count(text: &str) -> usize
-    ensures { result ≡ length (parts_of text.now) }
+/// How many parts a text has between bytes of this value.
+pub(crate) fn part_count(text: &str, separator: u8) -> usize
+    ensures { result ≡ length (parts_between separator text.now) }
 {
     let mut parts = 1;
     for byte in text.as_bytes() {
-        if *byte == b'/' {
+        if *byte == separator {
             parts += 1;
         }
     }
@@ -59,7 +59,7 @@ fn few_strokes(outlines: &[String]) -> bool
 {
     let mut strokes: usize = 0;
     for outline in outlines {
-        strokes = strokes.saturating_add(part_count(outline.as_str()));
+        strokes = strokes.saturating_add(part_count(outline.as_str(), b'/'));
         if strokes >= 1 << 32 {
             return false;
         }

@@ -5,6 +5,7 @@ ghost use Rattle.commands.specs.Commands.{command_view};
 ghost use Rattle.commands.specs.Reading.{command_of, read_by, readers};
 ghost use Rattle.commands.specs.Written.{IsWritten};
 
+use crate::briefs::try_briefs;
 use crate::command::Command;
 use crate::generated::{audit_generated, generate};
 use crate::search::{audit, audit_json, audit_to, parse, settled};
@@ -13,7 +14,8 @@ use crate::typed::{explain, replay};
 
 /// The command, by its name.
 fn read_named<'a>(name: &'a str, args: &'a [String]) -> Option<Command<'a>>
-    ensures { option_map command_view result ≡ read_by readers name.now (map string_bytes args.now) }
+    ensures { option_map command_view result
+        ≡ read_by readers name.now (map string_bytes args.now) }
 {
     match name {
         "replay" => replay(args),
@@ -26,6 +28,7 @@ fn read_named<'a>(name: &'a str, args: &'a [String]) -> Option<Command<'a>>
         "upgrade" => upgrade(args),
         "settled" => settled(args),
         "parse" => parse(args),
+        "try" => try_briefs(args),
         "generate" => generate(args),
         "audit-generated" => audit_generated(args),
         _ => None,

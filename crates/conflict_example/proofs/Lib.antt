@@ -7,3 +7,4 @@ pub mod States
 pub mod Walks
 pub mod Noted
 pub mod AtStack
+pub mod OneRow

@@ -1,16 +1,16 @@
 //! The words of an example, rebuilt from the walk to its hit.
 
-ghost use Rattle.std.specs.Prelude.{◌≡◌, ◌++◌, if◌then◌else◌, [], IfOk, OnOk, length, nat_eq};
-ghost use Rattle.steno_rules.specs.Outlines.{AreEntries, entry_number};
+ghost use Rattle.std.specs.Prelude.{◌≡◌, ◌<◌, ◌^◌, ◌++◌, if◌then◌else◌, [], IfOk, OnOk, length, nat_eq};
+ghost use Rattle.steno_rules.specs.Outlines.{AreRising, entry_number};
 ghost use Rattle.closure_laws.specs.Examples.{example as example_of, last_stroke, trail};
 ghost use Rattle.conflict_example.specs.inside.Closures.{IsWalkEnd};
 ghost use Rattle.conflict_example.specs.inside.Spellings.{if_there, made_after, numbered_state, numbers_among, opened};
 
 use crate::hits::NUMBERS;
-use dict_stack::Stack;
+use dict_stack::find_outline;
 use state_numbering::Numbering;
 use std::alloc::{AllocError, Global};
-use stroke::Stroke;
+use stroke::{Outline, Stroke};
 
 /// What is used again from one example to the next.
 #[derive(Drop)]
@@ -80,28 +80,32 @@ fn ends_word(numbering: &Numbering<'_>, number: u32) -> bool
 }
 
 /// Adds the entry of these strokes to the words, if they are one.
-fn push_word(stack: &Stack, strokes: &[Stroke], made: &mut Vec<u32>) -> Result<(), AllocError>
-    ensures { let found = if_there (entry_number stack.now.outlines strokes.now) in
+fn push_word(entries: &[Outline], strokes: &[Stroke], made: &mut Vec<u32>) -> Result<(), AllocError>
+    requires rising { AreRising entries.now }
+    requires few { length entries.now < 2 ^ 32 }
+    ensures { let found = if_there (entry_number entries.now strokes.now) in
         OnOk result (made.new.items ≡ made.old.items ++ found) }
 {
-    match stack.find(strokes) {
-        Some(entry) => {
+    match find_outline(entries, strokes) {
+        Ok(entry) => {
             made.push(entry)?;
             Ok(())
         }
-        None => Ok(()),
+        Err(_) => Ok(()),
     }
 }
 
 /// Goes on to a number's state: its stroke is added to the open word, which ends where no word is open any more.
 fn spell(
     numbering: &Numbering<'_>,
-    stack: &Stack,
+    entries: &[Outline],
     number: u32,
     strokes: &mut Vec<Stroke>,
     made: &mut Vec<u32>,
 ) -> Result<(), AllocError>
-    requires { numbering.now.entries ≡ stack.now.outlines }
+    requires entries { numbering.now.entries ≡ entries.now }
+    requires rising { AreRising entries.now }
+    requires few { length entries.now < 2 ^ 32 }
     ensures open { let state = numbered_state numbering.now.entries numbering.now.words number in
         OnOk result (strokes.new.items ≡ opened state strokes.old.items) }
     ensures words { let state = numbered_state numbering.now.entries numbering.now.words number in
@@ -110,23 +114,25 @@ fn spell(
 {
     push_stroke(numbering, number, strokes)?;
     if ends_word(numbering, number) {
-        push_word(stack, strokes, made)?;
+        push_word(entries, strokes, made)?;
         strokes.clear();
     }
     Ok(())
 }
 
-/// The words of the walk of so many moves to a number, by their entries' numbers.
+/// The words of the walk of so many moves to a number, by their entries' numbers. Each word is found by a binary search.
 pub fn example(
     alloc: Global,
     numbering: &Numbering<'_>,
-    stack: &Stack,
+    entries: &[Outline],
     words: &[u64],
     number: u32,
     distance: u32,
     scratch: &mut Scratch,
 ) -> Result<Vec<u32>, AllocError>
-    requires entries { numbering.now.entries ≡ stack.now.outlines }
+    requires entries { numbering.now.entries ≡ entries.now }
+    requires rising { AreRising entries.now }
+    requires few { length entries.now < 2 ^ 32 }
     requires walk { IsWalkEnd words.now number distance }
     ensures { let v = numbering.now in
         IfOk result (λ made. made.items
@@ -137,7 +143,7 @@ pub fn example(
     strokes.clear();
     let mut made = Vec::new(alloc);
     while let Some(number) = path.pop() {
-        spell(numbering, stack, number, strokes, &mut made)?;
+        spell(numbering, entries, number, strokes, &mut made)?;
     }
     Ok(made)
 }

@@ -1,5 +1,5 @@
 -- What a binary search over rising outlines finds.
-use Rattle.std.proofs.Common.{◌≡◌, ℕ, ◌<◌, List, [], length, refl, sym, ap, ◌∙◌, subst, arith, Option, Some, None, HoldsAt, inl, inr, Less, Equal, Greater}
+use Rattle.std.proofs.Common.{◌≡◌, ℕ, ◌<◌, ◌≤◌, List, [], length, refl, sym, ap, ◌∙◌, subst, arith, Option, Some, None, HoldsAt, inl, inr, Less, Equal, Greater}
 use Rattle.std.specs.List.Sorted.{IsPartitionPoint, IsNonDecreasingBy}
 use Rattle.std.specs.Ordering.{ordering_index}
 use Rattle.std.specs.Cmp.Lexicographic.{nat_list_cmp_total}
@@ -8,6 +8,7 @@ use Rattle.std.proofs.lemmas.List.Sorted.{searchable_from_sorted}
 use Rattle.steno_rules.specs.Outlines.{outline_cmp, AreRising, entry_number, outline_of}
 use Rattle.steno_rules.proofs.Numbers.{not_below_self, entry_number-outline_of, entry_number-Some}
 use Rattle.steno_rules.proofs.NodeLemmas.{same_of_equal}
+use Rattle.dict_stack.specs.Finding.{IsMissing}
 use Rattle.dict_stack.proofs.OrderLemmas.{sorted_of_rising, not_above_self}
 
 -- rising outlines compare with x in the order that a binary search asks for
@@ -36,3 +37,19 @@ number_missing xs entries x i are rising found = by (entry_number entries x) ref
           | inl before ↦ absurd (not_below_self x (subst (λ y. outline_cmp y x ≡ Less) found.1 (split.0 e [] (omega arith) before)))
           | inr after ↦ absurd (not_above_self x (subst (λ y. outline_cmp y x ≡ Greater) found.1 (split.1 e [] after found.0)))
         ]
+
+-- A list between two neighbours has its place between them.
+pub place_missing : (xs entries : List (List ℕ)) (x : List ℕ) (i : ℕ) → xs ≡ entries → AreRising entries → i ≤ length xs →
+    (IsNonDecreasingBy (λ y. ordering_index (outline_cmp y x)) xs → IsPartitionPoint (λ y. outline_cmp y x ≡ Less) (λ y. outline_cmp y x ≡ Greater) xs i) → IsMissing entries x i
+place_missing xs entries x i are rising within found = record {
+  apart = number_missing xs entries x i are rising found;
+  within = subst (λ (l : List (List ℕ)). i ≤ length l) are within;
+  before = λ k below. split.0 k [] (omega (arith, within, ap length are)) below;
+  behind = λ k from below. split.1 k [] from below;
+}
+  where
+    Parted : List (List ℕ) → Type 0
+    Parted l = IsNonDecreasingBy (λ y. ordering_index (outline_cmp y x)) l → IsPartitionPoint (λ y. outline_cmp y x ≡ Less) (λ y. outline_cmp y x ≡ Greater) l i
+
+    split : IsPartitionPoint (λ y. outline_cmp y x ≡ Less) (λ y. outline_cmp y x ≡ Greater) entries i
+    split = subst Parted are found (searchable entries x rising)

@@ -1,4 +1,5 @@
 pub mod Stacks
 pub mod Appearances
 pub mod Faults
+pub mod Finding
 pub mod inside

@@ -13,11 +13,13 @@
 mod candidates;
 mod columns;
 mod faults;
+mod finding;
 pub mod laws;
 mod stacks;
 mod stroke_numbers;
 
 pub use faults::StackFault;
+pub use finding::find_outline;
 pub use stacks::Stack;
 
 #[cfg(test)]

@@ -9,6 +9,7 @@ ghost use Rattle.dict_stack.specs.Faults.{IsStackCause};
 use crate::candidates::{Collected, collect};
 use crate::columns::{Columns, merge};
 use crate::faults::StackFault;
+use crate::finding::find_outline;
 use crate::stroke_numbers::StrokeNumbers;
 use dict_json::{Dictionary, Text};
 use std::alloc::Global;
@@ -65,7 +66,8 @@ impl Stack {
         requires few { length dictionaries.items ≤ most_dictionaries }
         requires each { length word_files.items ≡ length dictionaries.items }
         ensures stack { IfOk result (λ s. s ≡ stack_of dictionaries.items word_files.items) }
-        ensures few_entries { IfOk result (λ _. length (all_outlines dictionaries.items) ≤ most_entries) }
+        ensures few_entries { IfOk result (λ _.
+            length (all_outlines dictionaries.items) ≤ most_entries) }
         ensures err { IfErr result (IsStackCause (all_outlines dictionaries.items)) }
     {
         let Collected {
@@ -140,11 +142,8 @@ impl Stack {
     pub fn find(&self, strokes: &[Stroke]) -> Option<u32>
         ensures { result ≡ entry_number self.now.outlines strokes.now }
     {
-        match self
-            .outlines
-            .binary_search_by(|outline| outline.strokes().cmp(strokes))
-        {
-            Ok(entry) => Some(entry as u32),
+        match find_outline(&self.outlines, strokes) {
+            Ok(entry) => Some(entry),
             Err(_) => None,
         }
     }
@@ -153,7 +152,8 @@ impl Stack {
     pub fn words(&self) -> &[bool]
         ensures words { result.now ≡ self.now.words }
         ensures each { length self.now.words ≡ length self.now.outlines }
-        ensures are_words { AreWords self.now.outlines (flagged_entries self.now.outlines self.now.words) }
+        ensures are_words { let outlines = self.now.outlines in
+            AreWords outlines (flagged_entries outlines self.now.words) }
     {
         self.words.as_slice()
     }

@@ -1,80 +1,16 @@
 -- Of the rows of the pairs that stay, with the words of their chosen open hits, there is one list at most.
-use Rattle.std.proofs.Common.{◌≡◌, ℕ, ◌<◌, ◌≤◌, List, [], ◌∷◌, ◌++◌, length, map, refl, sym, ap, ap₂, subst, ◌∙◌, arith, All, AllPairs, Contains, Option, Some, inl, inr}
+use Rattle.std.proofs.Common.{◌≡◌, ℕ, ◌<◌, ◌≤◌, List, [], ◌∷◌, ◌++◌, length, map, sym, ap, subst, ◌∙◌, arith, Contains, Option, Some}
 use Rattle.steno_rules.specs.Outlines.{entry_number, outline_of}
 use Rattle.steno_rules.specs.StateNumbers.{state_of_number}
 use Rattle.steno_rules.specs.States.{State}
-use Rattle.steno_rules.proofs.Lists.{none_in_nil, in_cons, in_first, in_later, pairs_tail, pairs_first}
 use Rattle.steno_rules.proofs.Numbers.{entry_number-Some}
 use Rattle.longest_match.specs.Rows.{IsBefore, Row}
 use Rattle.closure_laws.specs.Examples.{example}
 use Rattle.settled_laws.specs.OpenHits.{CanFinish}
 use Rattle.settled_laws.specs.ChosenOpenHits.{ended_word, finished_example}
 use Rattle.settled_laws.proofs.ChosenOpenLemmas.{chosen_open_once}
+use Rattle.conflict_example.proofs.OneRow.{all_at, before_itself, before_trans, map_some, row_of, row_same, same_members}
 use Rattle.settled_pairs.specs.SettledRows.{AreChosenRows, AreSettledPairs, IsChosenRow, IsShortestSettled}
-
--- ---- rising lists
-
-module _ {A : Type 0} (R : A → A → Type 0) (itself : (x : A) → R x x → ⊥) (trans : (x y z : A) → R x y → R y z → R x z) where
-  -- two rising lists with the same members are one
-  rising_same : (xs ys : List A) → AllPairs R xs → AllPairs R ys → ((z : A) → Contains xs z → Contains ys z) → ((z : A) → Contains ys z → Contains xs z) → xs ≡ ys
-  rising_same [] [] a b to from = refl
-  rising_same [] (y ∷ ys) a b to from = absurd (none_in_nil y (from y (in_first y ys)))
-  rising_same (x ∷ xs) [] a b to from = absurd (none_in_nil x (to x (in_first x xs)))
-  rising_same (x ∷ xs) (y ∷ ys) a b to from =
-      ap₂ (λ z l. z ∷ l) first (rising_same xs ys (pairs_tail R x xs a) (pairs_tail R y ys b)
-      (λ z h. elim (in_cons y ys z (to z (in_later x xs z h))) [
-        | inl is ↦ absurd (itself z (subst (λ l. R l z) (first ∙ is) (pairs_first R x xs z a h)))
-        | inr later ↦ later
-      ])
-      (λ z h. elim (in_cons x xs z (from z (in_later y ys z h))) [
-        | inl is ↦ absurd (itself z (subst (λ l. R l z) (sym first ∙ is) (pairs_first R y ys z b h)))
-        | inr later ↦ later
-      ]))
-    where
-      first : x ≡ y
-      first = elim (in_cons y ys x (to x (in_first x xs))) [
-        | inl is ↦ sym is
-        | inr later ↦ elim (in_cons x xs y (from y (in_first y ys))) [
-          | inl is ↦ is
-          | inr other ↦ absurd (itself y (trans y x y (pairs_first R y ys x b later) (pairs_first R x xs y a other)))
-        ]
-      ]
-
-before_itself : (x : Row) → IsBefore x x → ⊥
-before_itself x (inl h) = absurd (omega arith)
-before_itself x (inr h) = let p = h.1 in absurd (omega arith)
-
-before_trans : (x y z : Row) → IsBefore x y → IsBefore y z → IsBefore x z
-before_trans x y z (inl a) (inl b) = inl (omega arith)
-before_trans x y z (inl a) (inr b) = let e = b.0 in inl (omega arith)
-before_trans x y z (inr a) (inl b) = let e = a.0 in inl (omega arith)
-before_trans x y z (inr a) (inr b) = let p = a.1 in let q = b.1 in inr (a.0 ∙ b.0, omega arith)
-
--- ---- one row
-
-abbrev row_of : ℕ → ℕ → ℕ → List ℕ → Row
-row_of entry place strokes words = record { entry = entry; place = place; strokes = strokes; words = words }
-
-row_same : (a b : Row) → a.entry ≡ b.entry → a.place ≡ b.place → a.strokes ≡ b.strokes → a.words ≡ b.words → a ≡ b
-row_same a b e p s w = same a.entry a.place a.strokes a.words b.entry b.place b.strokes b.words e p s w
-  where
-    same : (e p s : ℕ) (w : List ℕ) (e' p' s' : ℕ) (w' : List ℕ) → e ≡ e' → p ≡ p' → s ≡ s' → w ≡ w' → row_of e p s w ≡ row_of e' p' s' w'
-    same e p s w e' p' s' w' he hp hs hw = rw (he, hp, hs, hw) refl
-
-map_some : (xs ys : List ℕ) → map Some xs ≡ map Some ys → xs ≡ ys
-map_some [] [] is = refl
-map_some [] (y ∷ ys) is = absurd (none is)
-  where
-    none : [] ≡ Some y ∷ map Some ys → ⊥
-    none is = cc
-map_some (x ∷ xs) [] is = absurd (none is)
-  where
-    none : Some x ∷ map Some xs ≡ [] → ⊥
-    none is = cc
-map_some (x ∷ xs) (y ∷ ys) is = let first : x ≡ y = cc in let rest : map Some xs ≡ map Some ys = cc in ap₂ (λ z l. z ∷ l) first (map_some xs ys rest)
-
-all_at : (P : Row → Type 0) (found : List Row) (row : Row) → All P found → Contains found row → P row
-all_at P found row all there = subst P there.2 (all there.0 row there.1)
 
 -- ---- the word that is ended
 
@@ -201,4 +137,4 @@ pub settled_rows_once : (entries words : List (List ℕ)) (table : List ℕ) (xs
     → AreSettledPairs entries words xs → AreSettledPairs entries words ys
     → AreChosenRows entries words table xs → AreChosenRows entries words table ys → xs ≡ ys
 settled_rows_once entries words table xs ys cx cy hx hy =
-    rising_same IsBefore before_itself before_trans xs ys cx.in_order cy.in_order (rows_to entries words table xs ys cx cy hx hy) (rows_to entries words table ys xs cy cx hy hx)
+    same_members IsBefore before_itself before_trans xs ys cx.in_order cy.in_order (rows_to entries words table xs ys cx cy hx hy) (rows_to entries words table ys xs cy cx hy hx)

@@ -107,7 +107,15 @@ fn row(
     let strokes = (hit / NUMBERS) as u32;
     let finish = finish_at(trie, windows, words, near, numbering, number);
     let distance = strokes - finish.strokes;
-    let mut made = example(alloc, numbering, stack, table, number, distance, scratch)?;
+    let mut made = example(
+        alloc,
+        numbering,
+        stack.outlines(),
+        table,
+        number,
+        distance,
+        scratch,
+    )?;
     push_ended(finish.word, &mut made)?;
     Ok(Conflict::new(entry, place, strokes, made))
 }

@@ -63,7 +63,8 @@ fn sum_of(
     requires numbering { numbering.now ≡ numbering_of trie.now words.now }
     requires few { number_count trie.now ≤ most_states }
     requires below { number < number_count trie.now }
-    requires settled { IsSettledWord 0 (kept_lists trie.now (words_in trie.now words.now)) number word }
+    requires settled { let lists = kept_lists trie.now (words_in trie.now words.now) in
+        IsSettledWord 0 lists number word }
     requires reached { word ≢ unreached }
     ensures sum { let ends = words_in trie.now words.now in
         MatchOption result (HasNoSum trie.now ends number) (IsSumOf trie.now ends number) }
@@ -110,7 +111,8 @@ fn note(
     requires entries { AreEntries trie.now }
     requires few { number_count trie.now ≤ most_states }
     requires below { number < number_count trie.now }
-    requires settled { IsSettledWord 0 (kept_lists trie.now (words_in trie.now words.now)) number word }
+    requires settled { let lists = kept_lists trie.now (words_in trie.now words.now) in
+        IsSettledWord 0 lists number word }
     requires reached { word ≢ unreached }
     requires first { AreFirstSums trie.now (words_in trie.now words.now) number least.old.items }
     ensures { AreFirstSums trie.now (words_in trie.now words.now) (number + 1) least.new.items }

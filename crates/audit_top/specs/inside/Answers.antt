@@ -6,14 +6,14 @@ use Rattle.std.specs.Prelude.{ℕ, ◌≡◌, ◌⊎◌, List, false, true, Bool
 use Rattle.std.specs.Io.KnownBytes.{append_known}
 use Rattle.outside.specs.Faults.{Rose}
 use Rattle.outside.specs.Files.{FilesView, LeavesFiles}
-use Rattle.outside.specs.declared.fault.Way.TheVariants.{Reading, Writing}
+use Rattle.outside.specs.declared.fault.Way.TheVariants.{Writing}
 use Rattle.dict_stack.specs.Stacks.{most_dictionaries}
 use Rattle.report.specs.Refusals.{RefusalView, refusal_text}
 use Rattle.commands.specs.Commands.{CommandView}
 use Rattle.commands.specs.Inputs.{dictionaries_of, reads_files, writes}
 use Rattle.audit_top.specs.Statuses.{refusal_status}
 use Rattle.audit_top.specs.Outcomes.{Expected, Inputs, Written, refused}
-use Rattle.audit_top.specs.Runs.{AreInputs, EndsWhole, FailedAt, FailsNamed, IsBegun, IsFilePart, MayProduce, OpensNamed, OutputView, World, Writes}
+use Rattle.audit_top.specs.Runs.{AreInputs, EndsWhole, FailedAt, FailsNamed, FailsToRead, IsBegun, IsFilePart, MayProduce, OpensNamed, OutputView, World, Writes}
 use Rattle.audit_top.specs.inside.Stops.{Stop, by_memory, by_output, by_refusal, stop_of}
 use Rattle.audit_top.specs.declared.refusals.Refusal.{Refusal}
 use Rattle.audit_top.specs.declared.refusals.Refusal.TheVariants as of
@@ -110,11 +110,11 @@ reads_only name = record { read = Some name; written = None }
 abbrev pub writes_only : List ℕ → Touched
 writes_only name = record { read = None; written = Some name }
 
--- one of them failed, and nothing had been refused before
+-- one of them failed, and nothing had been refused before; where reading failed no file has changed
 pub record FailsBehind (limit : Option RefusalView) (touched : Touched) (old new : FilesView)
     : Type 0 where
   pub accepted : limit ≡ None
-  pub failed : FailedAt touched.read Reading old new ⊎ FailedAt touched.written Writing old new
+  pub failed : FailsToRead touched.read old new ⊎ FailedAt touched.written Writing old new
 
 -- then this line is written
 pub record IsFileFailure (line : RefusalView) (limit : Option RefusalView) (touched : Touched)

@@ -1,5 +1,7 @@
 -- Why a run goes no further, as the parts of a run see it, and how a fault of a call below becomes such a reason.
 use Rattle.report.specs.Refusals.{RefusalView, certificate_failed, certificate_too_long, file_failed, not_json, not_report, not_words, rejected, too_many_bytes, too_many_nodes, too_many_states}
+use Rattle.brief_trial.specs.declared.faults.TrialFault.{TrialFault}
+use Rattle.brief_trial.specs.declared.faults.TrialFault.TheVariants as trial
 use Rattle.certificate.specs.declared.faults.CertFault.{CertFault}
 use Rattle.certificate.specs.declared.faults.CertFault.TheVariants as cert
 use Rattle.cert_check.specs.declared.faults.CheckFault.{CheckFault}
@@ -66,6 +68,12 @@ refusal_of_trie trie.Memory = of.Memory
 abbrev pub refusal_of_numbers : NumberFault → Refusal
 refusal_of_numbers (numbers.TooManyStates count) = of.States count
 refusal_of_numbers numbers.Memory = of.Memory
+
+abbrev pub refusal_of_trial : TrialFault → Refusal
+refusal_of_trial (trial.Entries count) = of.Dictionaries (load.Entries count)
+refusal_of_trial (trial.Nodes count) = of.Nodes count
+refusal_of_trial (trial.States count) = of.States count
+refusal_of_trial trial.Memory = of.Memory
 
 abbrev pub refusal_of_report : OutsideFault → Refusal
 refusal_of_report report.Failed = of.Output

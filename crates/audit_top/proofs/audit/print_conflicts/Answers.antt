@@ -2,9 +2,7 @@ use Rattle.std.proofs.Common.{refl}
 use Rattle.std.proofs.lemmas.Result.{err_from_is_err_and}
 use Rattle.conflict_example.specs.Chosen.{words_in_stack}
 use Rattle.report_json.proofs.InnerPlaces.{inner_places}
-use Rattle.audit_top.specs.Outcomes.{prints}
 use Rattle.audit_top.specs.Audited.{PrintsConflicts}
-use Rattle.audit_top.specs.Statuses.{audit_status}
 use Rattle.audit_top.specs.inside.Forms.{made_in}
 use Rattle.audit_top.proofs.Reports.{conflicts-are}
 use Rattle.audit_top.proofs.Stops.{put-stopped, put-whole}

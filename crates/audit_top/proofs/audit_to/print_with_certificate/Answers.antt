@@ -1,4 +1,4 @@
-use Rattle.std.proofs.Common.{All, length, refl, ◌<◌, ℕ, ◌∙◌, ap, sym}
+use Rattle.std.proofs.Common.{length, refl, ◌<◌, ℕ}
 use Rattle.std.proofs.lemmas.List.Elements.{All-weaker}
 use Rattle.std.proofs.lemmas.Result.{err_from_is_err_and}
 use Rattle.longest_match.specs.Rows.{IsSmall, Row}

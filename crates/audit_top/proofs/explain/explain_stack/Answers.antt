@@ -1,11 +1,9 @@
-use Rattle.std.proofs.Common.{◌≡◌, ◌≤◌, ◌<◌, ◌^◌, ◌∙◌, ap, arith, length, map, refl, string_bytes, subst, sum, sym, ℕ, true, nat_lt}
-use Rattle.std.proofs.lemmas.Bool.{and_parts}
+use Rattle.std.proofs.Common.{◌≤◌, ◌∙◌, ap, arith, length, map, string_bytes, subst, sum}
 use Rattle.std.proofs.lemmas.Result.{err_from_is_err_and}
 use Rattle.steno_rules.specs.Nodes.{nodes}
 use Rattle.outline_trie.specs.declared.trie.TheConstants.Trie.{MAX_NODES}
-use Rattle.commands.specs.Commands.{is_spelt, strokes_written}
 use Rattle.audit_top.specs.Outcomes.{UnlessRefused, trie_limit}
-use Rattle.audit_top.specs.Translated.{IsExplained, IsTypedText}
+use Rattle.audit_top.specs.Translated.{IsExplained}
 use Rattle.audit_top.proofs.Reports.{trie-within}
 use Rattle.audit_top.proofs.Stops.{answers-weaker, ran-out, unless-none}
 use Rattle.audit_top.proofs.Typed.{few-typed, typed-is}

@@ -1,4 +1,4 @@
-use Rattle.std.proofs.Common.{◌≡◌, ◌<◌, ◌++◌, ◌∙◌, [], ◌∷◌, ap, arith, length, map, string_bytes, subst, sym, List, ℕ, true}
+use Rattle.std.proofs.Common.{◌<◌, ◌++◌, ◌∙◌, [], ◌∷◌, ap, arith, length, map, string_bytes, List, ℕ}
 use Rattle.std.proofs.lemmas.List.{length-map}
 use Rattle.commands.specs.Commands.{is_spelt}
 use Rattle.dict_files.proofs.Turns.{arg-turn}

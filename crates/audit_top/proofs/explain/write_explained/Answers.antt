@@ -1,4 +1,4 @@
-use Rattle.std.proofs.Common.{◌≡◌, ◌∙◌, ◌++◌, All, ap, length, refl, subst, sym, Err, List, ℕ}
+use Rattle.std.proofs.Common.{◌∙◌, All, refl, subst, sym}
 use Rattle.std.proofs.lemmas.Result.{err_from_is_err_and}
 use Rattle.report.specs.Replays.{pieces_text}
 use Rattle.typed_view.specs.Covers.{IsCoverOf, covers_of}

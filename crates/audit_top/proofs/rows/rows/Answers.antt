@@ -1,9 +1,9 @@
-use Rattle.std.proofs.Common.{Global, Some, Vec, ℕ, ap, ◌∙◌, IfSome, subst, sym, Err, refl, true, false, true≢false}
+use Rattle.std.proofs.Common.{Global, Some, Vec, ℕ, ap, sym, Err, false, true≢false}
 use Rattle.std.proofs.lemmas.Result.{err_from_is_err_and}
 use Rattle.report.specs.Refusals.{file_failed}
 use Rattle.commands.specs.Commands.{rows as rows_of}
-use Rattle.audit_top.specs.Listed.{IsListed, IsRows}
-use Rattle.audit_top.specs.inside.Answers.{Answers, reads_only}
+use Rattle.audit_top.specs.Listed.{IsRows}
+use Rattle.audit_top.specs.inside.Answers.{reads_only}
 use Rattle.audit_top.proofs.Listing.{is-rows, opens-read, opens-unread, read-goes, unread}
 use Rattle.audit_top.proofs.OtherFiles.{alone-answer}
 use Rattle.audit_top.proofs.rows.rows.Goals as goal

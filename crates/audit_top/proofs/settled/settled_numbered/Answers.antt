@@ -1,4 +1,3 @@
-use Rattle.std.proofs.Common.{◌∙◌, sym}
 use Rattle.conflict_example.specs.Chosen.{words_in_stack}
 use Rattle.state_numbering.specs.Numberings.{numbering_of}
 use Rattle.steno_rules.specs.WordSets.{words_in}

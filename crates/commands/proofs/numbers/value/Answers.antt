@@ -1,6 +1,6 @@
 use Rattle.std.proofs.Common.{arith, ◌+◌}
 use Rattle.std.proofs.lemmas.List.Sums.{fold_more}
-use Rattle.commands.proofs.Values.{with_digit, le-prefix}
+use Rattle.text_rules.proofs.Values.{with_digit, le-prefix}
 use Rattle.commands.proofs.numbers.value.Goals as goal
 
 pub returns-then-next-from : goal.returns-then-next-from

@@ -1,0 +1,8 @@
+pub mod TrialsOnce
+mod TrialStacks
+mod MadeTrials
+mod LimitLemmas
+mod Adding
+pub mod TrialOutlines
+pub mod LineParts
+pub mod NumberedTrials

@@ -1,0 +1,4 @@
+pub mod Trials
+pub mod Limits
+pub mod inside
+pub mod TrialTexts
