@@ -39,14 +39,13 @@ fn are_plain(args: &[String]) -> bool
 #[test]
 fn plain_objects_never_fail(rt: HostRuntime) -> Result<(), AllocError> {
     let mut files = PlainFiles::new(rt.alloc());
-    files.add("d", b"{"S": "s"}")?;
+    files.add("d", b"{\"S\": \"s\"}")?;
     let mut out = PlainSink::new(rt.alloc());
     let args = arguments_of(rt.alloc(), "replay S d")?;
     assert!(rt; are_short(&args));
     let found = run_in_memory(&rt, rt.alloc(), &args, &mut files, &mut out, &NoGate);
     assert_eq!(rt; found, Status::Clean);
-    assert!(rt; out.text() == b"S "s"
-".as_slice());
+    assert!(rt; out.text() == b"S \"s\"\n".as_slice());
     Ok(())
 }
 
