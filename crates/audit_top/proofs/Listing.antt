@@ -13,7 +13,7 @@ use Rattle.dict_files.proofs.FirstRefusals.{if_over-over, if_over-within}
 use Rattle.dict_files.specs.declared.loading.TheConstants.{MAX_BYTES}
 use Rattle.report.specs.Refusals.{file_failed, not_json, not_report, too_many_bytes}
 use Rattle.report_json.specs.JsonFaults.{IsJsonCause}
-use Rattle.report_json.specs.JsonLines.{lines_text}
+use Rattle.report_json.specs.JsonLines.{listing_text}
 use Rattle.report_json.specs.JsonReports.{IsJsonReport, JsonReportView, report_value}
 use Rattle.report_json.specs.ReadOutcomes.{IsReadOutcome, ReadOutcome, a_report, another_value, no_value}
 use Rattle.report_json.specs.declared.faults.JsonFault.{JsonFault}
@@ -45,7 +45,7 @@ listed_as bytes outcome within is =
     unless-none (bytes_limit bytes) (ListsRows bytes) (within-limit bytes within) (rows_result outcome) (record { outcome = outcome; is = is; produces = refl })
 
 -- the rows of the report that was read
-pub report-listed : (bytes : List ℕ) (report : JsonReportView) → length bytes ≤ MAX_BYTES → reading bytes ≡ Some (report_value report) → IsJsonReport report → IsListed bytes (prints Clean (lines_text report))
+pub report-listed : (bytes : List ℕ) (report : JsonReportView) → length bytes ≤ MAX_BYTES → reading bytes ≡ Some (report_value report) → IsJsonReport report → IsListed bytes (prints Clean (listing_text report))
 report-listed bytes report within is is_report = listed_as bytes (a_report report) within (record { is_report = is_report; is = is })
 
 -- the bytes are no report's

@@ -5,7 +5,7 @@ use Rattle.std.specs.List.{concat, list_all}
 use Rattle.std.proofs.lemmas.Bool.{and_parts}
 use Rattle.std.proofs.lemmas.Bool.Decides.{Decides-ltb}
 use Rattle.std.proofs.lemmas.List.{append-nil, map-append, take_more}
-use Rattle.std.proofs.lemmas.List.Folds.{concat-append, list_all_at}
+use Rattle.std.proofs.lemmas.List.Folds.{concat-append}
 use Rattle.std.proofs.lemmas.List.Sums.{sum-map, sum_by-cons}
 use Rattle.stroke.specs.declared.pieces.Piece.{Piece}
 use Rattle.stroke.specs.Pieces.{pieces}
@@ -60,14 +60,6 @@ parts-more outlines i parts read below before is =
     ap₂ (λ (a : List ℕ) (b : List ℕ). a ++ (length b ∷ [])) before is
     ∙ sym (map-append (λ outline. length (typed_strokes outline)) (take i outlines) (get_or outlines i [] ∷ []))
     ∙ ap typed_parts (sym (take_more outlines i [] below))
-
--- each of them is readable
-pub spelt-at : (outlines : List (List ℕ)) (i : ℕ) → list_all is_spelt outlines ≡ true → i < length outlines → is_spelt (get_or outlines i []) ≡ true
-spelt-at outlines i spelt below = by (is_spelt (get_or outlines i [])) refl
-  where
-    by : (b : Bool) → is_spelt (get_or outlines i []) ≡ b → b ≡ true
-    by true test = refl
-    by false test = absurd (true≢false (sym spelt ∙ list_all_at is_spelt outlines i [] below test))
 
 -- ---- what is written
 

@@ -5,14 +5,14 @@ use Rattle.dict_json.specs.Reading.{reading}
 use Rattle.dict_files.specs.Refusals.{if_over}
 use Rattle.dict_files.specs.declared.loading.TheConstants.{MAX_BYTES}
 use Rattle.report.specs.Refusals.{RefusalView, not_json, not_report, too_many_bytes}
-use Rattle.report_json.specs.JsonLines.{lines_text}
+use Rattle.report_json.specs.JsonLines.{listing_text}
 use Rattle.report_json.specs.ReadOutcomes.{IsReadOutcome, ReadOutcome, a_report, another_value, no_value}
 use Rattle.audit_top.specs.Outcomes.{Expected, UnlessRefused, prints, refused}
 use Rattle.audit_top.specs.declared.status.Status.TheVariants.{Clean}
 
 -- the lines of a report's rows, or why there is no report
 abbrev pub rows_result : ReadOutcome → Expected
-rows_result (a_report report) = prints Clean (lines_text report)
+rows_result (a_report report) = prints Clean (listing_text report)
 rows_result no_value = refused (not_json 1)
 rows_result another_value = refused (not_report 1)
 

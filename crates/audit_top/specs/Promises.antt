@@ -33,7 +33,7 @@ use Rattle.cert_check.specs.Verdicts.{closure_at}
 use Rattle.commands.specs.Commands.{CommandView, audit_json, brief_outlines, check, explain, parse, rows as rows_of, settled, try_briefs, upgrade, audit_to}
 use Rattle.report.specs.Reports.{settled_text, report_text}
 use Rattle.report.specs.declared.reports.Summary.{Summary}
-use Rattle.report_json.specs.JsonLines.{json_text, lines_text}
+use Rattle.report_json.specs.JsonLines.{json_text, listing_text}
 use Rattle.report_json.specs.JsonReports.{JsonReportView, json_report}
 use Rattle.report_json.specs.ReadOutcomes.{IsOfReport}
 use Rattle.settled_pairs.specs.SettledRows.{AreSettledPairs, HasConflicts}
@@ -171,7 +171,7 @@ Tries command told old new status =
 pub record ListsReport (bytes : List ℕ) (old new : Option (List ℕ)) : Type 0 where
   pub report : JsonReportView
   pub read : IsOfReport (reading bytes) report
-  pub text : new ≡ append_known old (lines_text report)
+  pub text : new ≡ append_known old (listing_text report)
 
 abbrev pub Lists : Option CommandView → Option Held → Option (List ℕ) → Option (List ℕ) → Status
     → Type 0

@@ -261,7 +261,8 @@ not_dashes outline spelt = by (is_dashes outline) refl
         let none : is_spelt dashes ≡ true = subst (λ o. is_spelt o ≡ true) e spelt in
         absurd (true≢false (sym none))
 
-readable_at : (outlines : List (List ℕ)) (k : ℕ) → list_all is_spelt outlines ≡ true → k < length outlines → is_spelt (get_or outlines k []) ≡ true
+-- each of some readable outlines is readable
+pub readable_at : (outlines : List (List ℕ)) (k : ℕ) → list_all is_spelt outlines ≡ true → k < length outlines → is_spelt (get_or outlines k []) ≡ true
 readable_at outlines k spelt below = by (is_spelt (get_or outlines k [])) refl
   where
     by : (b : Bool) → is_spelt (get_or outlines k []) ≡ b → b ≡ true

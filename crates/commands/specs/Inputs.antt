@@ -12,20 +12,20 @@ use Rattle.commands.specs.Commands.{CommandView, replay, explain, audit, audit_j
 -- ---- tables
 
 -- the dictionaries
-abbrev pub dictionaries_of : CommandView → List (List ℕ)
-dictionaries_of (replay outline dicts) = dicts
-dictionaries_of (explain outlines dicts) = dicts
-dictionaries_of (audit workers dicts) = dicts
-dictionaries_of (audit_json workers dicts) = dicts
-dictionaries_of (rows file) = []
-dictionaries_of (audit_to certificate workers dicts) = dicts
-dictionaries_of (check certificate dicts) = dicts
-dictionaries_of (upgrade certificate target) = []
-dictionaries_of (settled workers dicts) = dicts
-dictionaries_of (parse workers dicts) = dicts
-dictionaries_of (try_briefs workers briefs dicts) = dicts
-dictionaries_of (generate start count) = []
-dictionaries_of (audit_generated start count workers) = []
+abbrev pub dictionary_names : CommandView → List (List ℕ)
+dictionary_names (replay outline dicts) = dicts
+dictionary_names (explain outlines dicts) = dicts
+dictionary_names (audit workers dicts) = dicts
+dictionary_names (audit_json workers dicts) = dicts
+dictionary_names (rows file) = []
+dictionary_names (audit_to certificate workers dicts) = dicts
+dictionary_names (check certificate dicts) = dicts
+dictionary_names (upgrade certificate target) = []
+dictionary_names (settled workers dicts) = dicts
+dictionary_names (parse workers dicts) = dicts
+dictionary_names (try_briefs workers briefs dicts) = dicts
+dictionary_names (generate start count) = []
+dictionary_names (audit_generated start count workers) = []
 
 -- the name of the report that is read
 abbrev pub report_of : CommandView → Option (List ℕ)
@@ -111,7 +111,7 @@ has_files (audit_generated start count workers) = false
 
 abbrev pub dictionaries_in : Option CommandView → List (List ℕ)
 dictionaries_in None = []
-dictionaries_in (Some command) = dictionaries_of command
+dictionaries_in (Some command) = dictionary_names command
 
 abbrev pub report_in : Option CommandView → Option (List ℕ)
 report_in None = None
@@ -141,7 +141,7 @@ searches (Some command) = has_workers command
 -- it touches files, which it doesn't where its dictionaries are too many
 abbrev pub reads_files : Option CommandView → Bool
 reads_files None = false
-reads_files (Some command) = has_files command && nat_le (length (dictionaries_of command)) most_dictionaries
+reads_files (Some command) = has_files command && nat_le (length (dictionary_names command)) most_dictionaries
 
 -- it says by its status whether it found something
 abbrev pub finds : Option CommandView → Bool

@@ -3,7 +3,7 @@
 ghost use Rattle.std.specs.Prelude.{◌≡◌, ◌<◌, ◌≤◌, ◌+◌, ◌^◌, [], All, length, sum_by, slice_index, slice_index_or, IfOk, IfErr};
 ghost use Rattle.steno_rules.specs.Outlines.{AreEntries, AreWords, IsOutline, entry_number, outline_of, flagged_entries};
 ghost use Rattle.dict_stack.specs.Stacks.{stack_of, all_outlines, most_entries, most_dictionaries};
-ghost use Rattle.dict_stack.specs.Appearances.{strokes_of_all, stroke_number_of};
+ghost use Rattle.dict_stack.specs.Appearances.{strokes_of_all};
 ghost use Rattle.dict_stack.specs.Faults.{IsStackCause};
 
 use crate::candidates::{Collected, collect};
@@ -12,7 +12,7 @@ use crate::faults::StackFault;
 use crate::finding::find_outline;
 use crate::stroke_numbers::StrokeNumbers;
 use dict_json::{Dictionary, Text};
-use std::alloc::Global;
+use std::alloc::{AllocError, Global};
 use std::marker::Model;
 use stroke::{Outline, Stroke};
 
@@ -30,21 +30,18 @@ pub struct Stack {
     skipped: Vec<Vec<Text>>,
     skipped_total: u64,
     folded_total: u64,
-    strokes: StrokeNumbers,
 }
 
 impl Model for Stack {
     ghost use Rattle.std.specs.Prelude.{◌≡◌, map, length, sum_by};
     ghost use Rattle.dict_stack.specs.Stacks.{StackView, IsStack};
-    ghost use Rattle.dict_stack.specs.Appearances.{strokes_of_all};
 
     ghost Value = { StackView };
 
     ghost view = { λ s. record { outlines = s.outlines.items; texts = s.texts.items; from = s.from.items; words = s.words.items; skipped = map (λ keys. keys.items) s.skipped.items; folded = s.folded_total } };
 
     ghost invariant = { λ s. IsStack (record { outlines = s.outlines.items; texts = s.texts.items; from = s.from.items; words = s.words.items; skipped = map (λ keys. keys.items) s.skipped.items; folded = s.folded_total })
-        × (s.skipped_total ≡ sum_by length (map (λ keys. keys.items) s.skipped.items))
-        × (s.strokes ≡ strokes_of_all s.outlines.items) };
+        × (s.skipped_total ≡ sum_by length (map (λ keys. keys.items) s.skipped.items)) };
 }
 
 impl Stack {
@@ -56,8 +53,8 @@ impl Stack {
 
     /// The stack of dictionaries by falling priority, each of which supplies words where its truth value says so.
     ///
-    /// Translations and outlines are moved, not copied. The cost is that of merging the dictionaries, and of a look-up in a hash
-    /// table for each stroke. Refused where more than [`Stack::MAX_ENTRIES`] outlines stand.
+    /// Translations and outlines are moved, not copied. The cost is that of merging the dictionaries. Refused
+    /// where more than [`Stack::MAX_ENTRIES`] outlines stand.
     pub fn new(
         alloc: Global,
         dictionaries: Vec<Dictionary>,
@@ -82,7 +79,6 @@ impl Stack {
             from,
             words,
         } = merge(alloc, candidates)?;
-        let strokes = StrokeNumbers::of(alloc, &outlines)?;
         Ok(Stack {
             outlines,
             texts,
@@ -91,7 +87,6 @@ impl Stack {
             skipped,
             skipped_total,
             folded_total,
-            strokes,
         })
     }
 
@@ -158,18 +153,20 @@ impl Stack {
         self.words.as_slice()
     }
 
-    /// How many different strokes the entries have.
-    pub fn stroke_count(&self) -> u32
-        ensures { result ≡ length (strokes_of_all self.now.outlines) }
+    /// The strokes of the entries, numbered in order of first appearance. The cost is that of a look-up in a hash table for each
+    /// stroke, so they are numbered only where that is asked.
+    pub fn stroke_numbers(&self, alloc: Global) -> Result<StrokeNumbers, AllocError>
+        ensures { IfOk result (λ numbers. numbers ≡ strokes_of_all self.now.outlines) }
     {
-        self.strokes.count()
+        StrokeNumbers::of(alloc, &self.outlines)
     }
 
-    /// The place of a stroke among those of the entries in order of first appearance.
-    pub fn stroke_number(&self, stroke: Stroke) -> Option<u32>
-        ensures { result ≡ stroke_number_of (strokes_of_all self.now.outlines) stroke }
+    /// How many different strokes the entries have. They are numbered for that.
+    pub fn count_strokes(&self, alloc: Global) -> Result<u32, AllocError>
+        ensures { IfOk result (λ count. count ≡ length (strokes_of_all self.now.outlines)) }
     {
-        self.strokes.number(stroke)
+        let numbers = self.stroke_numbers(alloc)?;
+        Ok(numbers.count())
     }
 
     /// The number of dictionaries.

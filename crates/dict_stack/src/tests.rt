@@ -35,14 +35,13 @@ fn stack_of_lines(
 /// A stack as a text: of each entry its strokes with their numbers, its text, the place of its dictionary and whether it is a
 /// word; then the skipped keys of each dictionary, and the numbers of skipped keys, folded keys and strokes.
 fn shown(rt: &impl Abort, alloc: Global, stack: &Stack) -> Result<String, AllocError> {
+    let numbers = stack.stroke_numbers(alloc)?;
     let mut text = String::new(alloc);
     for entry in 0..stack.entry_count() {
         let strokes = stack.outline(entry).strokes();
         assert_eq!(rt; stack.find(strokes), Some(entry));
         for stroke in strokes {
-            let number = stack
-                .stroke_number(*stroke)
-                .expect(rt, "a stroke of the stack");
+            let number = numbers.number(*stroke).expect(rt, "a stroke of the stack");
             text.push_str(&format!(in alloc; "{}:{} ", stroke.code(), number)?)?;
         }
         let kind = if stack.words()[entry as usize] {
@@ -67,7 +66,7 @@ fn shown(rt: &impl Abort, alloc: Global, stack: &Stack) -> Result<String, AllocE
         "{} {} {}",
         stack.skipped_total(),
         stack.folded_total(),
-        stack.stroke_count()
+        numbers.count()
     )?)?;
     Ok(text)
 }

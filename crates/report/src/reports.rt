@@ -39,6 +39,7 @@ fn push_line(page: &mut Vec<u8>, name: &[u8], number: u64) -> Result<(), AllocEr
 
 /// Adds the seven counts, the last of which has this name.
 pub(crate) fn push_head(
+    alloc: Global,
     page: &mut Vec<u8>,
     name: &[u8],
     stack: &Stack,
@@ -50,7 +51,7 @@ pub(crate) fn push_head(
     push_line(page, b"entries", u64::from(stack.entry_count()))?;
     push_line(page, b"skipped", stack.skipped_total())?;
     push_line(page, b"folded", stack.folded_total())?;
-    push_line(page, b"strokes", u64::from(stack.stroke_count()))?;
+    push_line(page, b"strokes", u64::from(stack.count_strokes(alloc)?))?;
     push_line(page, b"states", u64::from(summary.states))?;
     push_line(page, b"rounds", u64::from(summary.rounds))?;
     push_line(page, name, u64::from(summary.conflicts))?;
@@ -150,7 +151,7 @@ fn head_page(
     ensures { IfOk result (λ page. page.items ≡ head_text name.now stack.now summary.now) }
 {
     let mut page = new_page(alloc)?;
-    push_head(&mut page, name, stack, summary)?;
+    push_head(alloc, &mut page, name, stack, summary)?;
     Ok(page)
 }
 

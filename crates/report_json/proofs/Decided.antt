@@ -14,7 +14,7 @@ use Rattle.steno_order.proofs.ListLaws.{spelt_strokes-IsOutline}
 use Rattle.report_json.specs.JsonFaults.{IsOtherValue}
 use Rattle.report_json.specs.JsonReports.{IsJsonReport, IsJsonRow, JsonReportView, JsonRowView, number_value, outline_value, report_value, row_value}
 use Rattle.report_json.specs.ReadOutcomes.{IsOfReport, IsReadOutcome, ReadOutcome, a_report, another_value, no_value}
-use Rattle.report_json.specs.inside.Readings.{AreWords, IsWithin, report_object, row_object, rows_value, words_value}
+use Rattle.report_json.specs.inside.Readings.{AreRowWords, IsWithin, report_object, row_object, rows_value, words_value}
 use Rattle.report_json.proofs.CanonicalTexts.{same_strokes, spelt}
 use Rattle.report_json.proofs.PartsOf.{report_has_entries, report_has_folded, report_has_rounds, report_has_rows, report_has_skipped, report_has_states, report_has_strokes, row_has_outline, row_has_place, row_has_strokes, row_has_words}
 use Rattle.report_json.proofs.Refusals.{array_same}
@@ -137,7 +137,7 @@ array_made Is made each (array ds) =
 same_count : (xs ys : List (List ℕ)) → words_value xs ≡ words_value ys → length xs ≡ length ys
 same_count xs ys e = omega (arith, ap length (array_same (map outline_value xs) (map outline_value ys) e), length-map xs outline_value, length-map ys outline_value)
 
-words_made : (value : Data) → Decision (IsMade AreWords words_value value)
+words_made : (value : Data) → Decision (IsMade AreRowWords words_value value)
 words_made value = elim (array_made IsOutline outline_value outline_made value) [
   | inr never ↦ inr (λ h. never (h.0, (h.1.0.are, h.1.1)))
   | inl found ↦ elim (cases_lt 0 (length found.0)) [
@@ -185,7 +185,7 @@ row_names = codes "outline" ∷ codes "place" ∷ codes "strokes" ∷ codes "wor
 
 abbrev ArePartsOfRow : Data → Data → Data → Data → Type 0
 ArePartsOfRow outline place strokes words =
-    IsMade IsOutline outline_value outline × (IsMade (IsWithin 1 63) number_value place × (IsMade (IsWithin 0 4294967295) number_value strokes × IsMade AreWords words_value words))
+    IsMade IsOutline outline_value outline × (IsMade (IsWithin 1 63) number_value place × (IsMade (IsWithin 0 4294967295) number_value strokes × IsMade AreRowWords words_value words))
 
 row_of_parts : (outline place strokes words : Data) → ArePartsOfRow outline place strokes words → IsMade IsJsonRow row_value (row_object outline place strokes words)
 row_of_parts outline place strokes words h =

@@ -4,7 +4,7 @@ use Rattle.std.specs.Fmt.{digits}
 use Rattle.std.specs.Str.{is_utf8, chars}
 use Rattle.serde_json.proofs.OnLiterals.{serde_json_on_literals}
 use Rattle.dict_json.specs.Reading.{reading}
-use Rattle.report_json.specs.JsonLines.{json_text, lines_text}
+use Rattle.report_json.specs.JsonLines.{json_text, listing_text}
 use Rattle.report_json.specs.JsonReports.{JsonReportView, JsonRowView}
 
 -- K-, T-, A- and -T, and so on: the codes of two strokes
@@ -32,11 +32,11 @@ text_of_none : json_text of_none ≡ codes "{\"conflicts\":[],\"entries\":0,\"fo
 unfolding digits serde_json_on_literals
 text_of_none = refl
 
-lines_of_three : lines_text of_three ≡ codes "conflict KAT/TEL place 1 strokes 2\nwords KAT | TEL\n"
+lines_of_three : listing_text of_three ≡ codes "conflict KAT/TEL place 1 strokes 2\nwords KAT | TEL\n"
 unfolding digits
 lines_of_three = refl
 
-lines_of_none : lines_text of_none ≡ []
+lines_of_none : listing_text of_none ≡ []
 lines_of_none = refl
 
 -- an open bracket has no reading

@@ -7,7 +7,7 @@ use Rattle.report_json.proofs.Refusals.{HasPart, array_same, refused_by}
 use Rattle.steno_rules.specs.Outlines.{IsOutline}
 use Rattle.report_json.specs.JsonReports.{IsJsonReport, IsJsonRow, JsonReportView, JsonRowView, number_value, outline_value, report_value, row_value}
 use Rattle.report_json.specs.declared.faults.JsonFault.{JsonFault}
-use Rattle.report_json.specs.inside.Readings.{AreWords, IsRefused, IsWithin, report_object, row_object, rows_value, words_value}
+use Rattle.report_json.specs.inside.Readings.{AreRowWords, IsPartRefused, IsWithin, report_object, row_object, rows_value, words_value}
 
 -- the values are those of the row's members
 pub record AreRowParts (outline place strokes words : Data) (of : JsonRowView) : Type 0 where
@@ -33,7 +33,7 @@ row_has_place outline place strokes words = λ of is e. (of.place, (record { at_
 pub row_has_strokes : (outline place strokes words : Data) → HasPart (IsWithin 0 4294967295) IsJsonRow number_value row_value strokes (row_object outline place strokes words)
 row_has_strokes outline place strokes words = λ of is e. (of.strokes, (record { at_least = omega arith; at_most = omega (arith, is.strokes) }, (row_parts_of outline place strokes words of e).of_strokes))
 
-pub row_has_words : (outline place strokes words : Data) → HasPart AreWords IsJsonRow words_value row_value words (row_object outline place strokes words)
+pub row_has_words : (outline place strokes words : Data) → HasPart AreRowWords IsJsonRow words_value row_value words (row_object outline place strokes words)
 row_has_words outline place strokes words = λ of is e. (of.words, (record { some = is.some_word; are = is.words }, (row_parts_of outline place strokes words of e).of_words))
 
 -- the values are those of the report's members
@@ -80,19 +80,19 @@ report_has_strokes conflicts entries folded rounds skipped states strokes = λ o
 
 -- ---- arrays
 
-pub words_have_outlines : (value : Data) (values : List Data) → value ≡ array (items_of values) → HasPart (All IsOutline) AreWords (map outline_value) words_value values value
+pub words_have_outlines : (value : Data) (values : List Data) → value ≡ array (items_of values) → HasPart (All IsOutline) AreRowWords (map outline_value) words_value values value
 words_have_outlines value values at = λ words is e. (words, (is.are, array_same values (map outline_value words) (sym at ∙ e)))
 
 -- an empty array has no words
 pub no_words : (value : Data) (values : List Data) (found : List (List ℕ)) → value ≡ array (items_of values) → values ≡ map outline_value found → length found ≡ 0
-    → (words : List (List ℕ)) → AreWords words → value ≡ words_value words → ⊥
+    → (words : List (List ℕ)) → AreRowWords words → value ≡ words_value words → ⊥
 no_words value values found at made empty words is e =
     let same = array_same values (map outline_value words) (sym at ∙ e) in
     absurd (omega (arith, is.some, empty, ap length same, ap length made, length-map found outline_value, length-map words outline_value))
 
 -- where the values are no rows, the array isn't one of rows
 pub rows_refused : {R : Type 0} (value : Data) (values : List Data) (result : Result R JsonFault) → value ≡ array (items_of values)
-    → IfErr result (IsRefused (All IsJsonRow) (map row_value) values) → IfErr result (IsRefused (All IsJsonRow) rows_value value)
+    → IfErr result (IsPartRefused (All IsJsonRow) (map row_value) values) → IfErr result (IsPartRefused (All IsJsonRow) rows_value value)
 rows_refused value values (Ok rows) at h = tt
 rows_refused value values (Err fault) at h =
     refused_by (All IsJsonRow) (All IsJsonRow) (map row_value) rows_value values value fault (λ rows are e. (rows, (are, array_same values (map row_value rows) (sym at ∙ e)))) h

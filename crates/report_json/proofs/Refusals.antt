@@ -7,7 +7,7 @@ use Rattle.serde_json.specs.Data.{Data, Members, array, boolean, float, item, me
 use Rattle.serde_json.specs.Find.{as_number, as_u64}
 use Rattle.serde_json.specs.View.{items_of}
 use Rattle.report_json.specs.JsonReports.{number_value}
-use Rattle.report_json.specs.inside.Readings.{IsRefused}
+use Rattle.report_json.specs.inside.Readings.{IsPartRefused}
 use Rattle.report_json.specs.declared.faults.JsonFault.{JsonFault}
 use Rattle.report_json.specs.declared.faults.JsonFault.TheVariants.{NotJson, NotReport, Memory}
 
@@ -18,16 +18,16 @@ abbrev pub HasPart : {A B V W : Type 0} → (A → Type 0) → (B → Type 0) �
 HasPart {A} {B} IsPart IsWhole part_of whole_of part whole = (b : B) → IsWhole b → whole ≡ whole_of b → (a : A) × (IsPart a × (part ≡ part_of a))
 
 pub refused_by : {A B V W : Type 0} (IsPart : A → Type 0) (IsWhole : B → Type 0) (part_of : A → V) (whole_of : B → W) (part : V) (whole : W) (fault : JsonFault)
-    → HasPart IsPart IsWhole part_of whole_of part whole → IsRefused IsPart part_of part fault → IsRefused IsWhole whole_of whole fault
+    → HasPart IsPart IsWhole part_of whole_of part whole → IsPartRefused IsPart part_of part fault → IsPartRefused IsWhole whole_of whole fault
 refused_by IsPart IsWhole part_of whole_of part whole NotJson has h = h
 refused_by IsPart IsWhole part_of whole_of part whole NotReport has h = λ b is e. let p = has b is e in h p.0 p.1.0 p.1.1
 refused_by IsPart IsWhole part_of whole_of part whole Memory has h = tt
 
 -- the refusal of a part is handed on
 pub exit_by : {A B V W R : Type 0} (IsPart : A → Type 0) (IsWhole : B → Type 0) (part_of : A → V) (whole_of : B → W) (part : V) (whole : W) (result : Result R JsonFault) (made fault : JsonFault)
-    → result ≡ Err made → made ≡ fault → HasPart IsPart IsWhole part_of whole_of part whole → IsRefused IsPart part_of part fault → IfErr result (IsRefused IsWhole whole_of whole)
+    → result ≡ Err made → made ≡ fault → HasPart IsPart IsWhole part_of whole_of part whole → IsPartRefused IsPart part_of part fault → IfErr result (IsPartRefused IsWhole whole_of whole)
 exit_by {R = R} IsPart IsWhole part_of whole_of part whole result made fault is by has h =
-    subst (λ (r : Result R JsonFault). IfErr r (IsRefused IsWhole whole_of whole)) (sym (is ∙ ap Err by)) (refused_by IsPart IsWhole part_of whole_of part whole fault has h)
+    subst (λ (r : Result R JsonFault). IfErr r (IsPartRefused IsWhole whole_of whole)) (sym (is ∙ ap Err by)) (refused_by IsPart IsWhole part_of whole_of part whole fault has h)
 
 -- ---- lists
 

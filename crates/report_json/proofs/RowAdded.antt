@@ -4,7 +4,7 @@ use Rattle.std.specs.Prelude.{codes}
 use Rattle.text_rules.specs.Lines.{line}
 use Rattle.outside.specs.Sink.{Puts}
 use Rattle.outside.specs.declared.fault.OutsideFault.{OutsideFault}
-use Rattle.report_json.specs.JsonLines.{lines_text, row_lines}
+use Rattle.report_json.specs.JsonLines.{listing_text, row_listing}
 use Rattle.report_json.specs.JsonReports.{JsonReportView, JsonRowView}
 
 -- the parts, added one after another
@@ -15,5 +15,5 @@ row_added old outline place strokes words = simp (append_assoc) refl
 
 -- where the lines of the rows were put, the text was
 pub lines_put : {T : Type 0} (report : JsonReportView) (rows : List JsonRowView) (result : Result T OutsideFault) (old new : Option (List ℕ)) (before after : ℕ) → rows ≡ report.rows
-    → Puts (flat_map row_lines rows) result old new before after → Puts (lines_text report) result old new before after
-lines_put report rows result old new before after are h = subst (λ (rs : List JsonRowView). Puts (flat_map row_lines rs) result old new before after) are h
+    → Puts (flat_map row_listing rows) result old new before after → Puts (listing_text report) result old new before after
+lines_put report rows result old new before after are h = subst (λ (rs : List JsonRowView). Puts (flat_map row_listing rs) result old new before after) are h

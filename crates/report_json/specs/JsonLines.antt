@@ -1,6 +1,6 @@
 -- A report as JSON text, and the lines of its rows.
 --     json_text report    the compact text of its value
---     lines_text report   two lines a row
+--     listing_text report   two lines a row
 use Rattle.std.specs.Prelude.{ℕ, List, [], ◌∷◌, ◌++◌, map, flat_map, codes, decimal}
 use Rattle.serde_json.specs.Written.{compact_text}
 use Rattle.text_rules.specs.Lines.{line, barred}
@@ -10,11 +10,11 @@ use Rattle.report_json.specs.JsonReports.{JsonReportView, JsonRowView, report_va
 abbrev pub json_text : JsonReportView → List ℕ
 json_text report = compact_text (report_value report)
 
-abbrev pub row_lines : JsonRowView → List ℕ
-row_lines row =
+abbrev pub row_listing : JsonRowView → List ℕ
+row_listing row =
     line (codes "conflict" ∷ canonical_text row.outline ∷ codes "place" ∷ decimal row.place
     ∷ codes "strokes" ∷ decimal row.strokes ∷ [])
     ++ line (codes "words" ∷ barred (map canonical_text row.words) ∷ [])
 
-abbrev pub lines_text : JsonReportView → List ℕ
-lines_text report = flat_map row_lines report.rows
+abbrev pub listing_text : JsonReportView → List ℕ
+listing_text report = flat_map row_listing report.rows

@@ -6,7 +6,7 @@ ghost use Rattle.steno_order.specs.Canonical.{canonical_text};
 ghost use Rattle.outside.specs.Sink.{Puts};
 ghost use Rattle.pages.specs.Pages.{AddsToPage, progress};
 ghost use Rattle.report.specs.inside.Bars.{bar_at};
-ghost use Rattle.report_json.specs.JsonLines.{lines_text, row_lines};
+ghost use Rattle.report_json.specs.JsonLines.{listing_text, row_listing};
 
 use crate::reports::{JsonReport, JsonRow};
 use outside::{OutsideFault, Sink, write_all};
@@ -38,7 +38,7 @@ fn push_words(page: &mut Vec<u8>, words: &[Outline], text: &mut String) -> Resul
 
 /// Adds the two lines of a row.
 fn push_row_lines(page: &mut Vec<u8>, row: &JsonRow, text: &mut String) -> Result<(), AllocError>
-    ensures { OnOk result (page.new.items ≡ page.old.items ++ row_lines row.now) }
+    ensures { OnOk result (page.new.items ≡ page.old.items ++ row_listing row.now) }
 {
     page.extend_from_slice(b"conflict ")?;
     push_outline(page, row.outline().strokes(), text)?;
@@ -61,7 +61,7 @@ fn write_row_lines<S: Sink>(
 ) -> Result<(), OutsideFault>
     ensures { let before = progress (S.text sink.old) (S.faults sink.old) page.old.items in
         let after = progress (S.text sink.new) (S.faults sink.new) page.new.items in
-        AddsToPage (row_lines row.now) result before after }
+        AddsToPage (row_listing row.now) result before after }
 {
     push_row_lines(page, row, text)?;
     put_full(sink, page)
@@ -76,7 +76,7 @@ fn write_lines<S: Sink>(
 ) -> Result<(), OutsideFault>
     ensures { let before = progress (S.text sink.old) (S.faults sink.old) page.old.items in
         let after = progress (S.text sink.new) (S.faults sink.new) page.new.items in
-        AddsToPage (flat_map row_lines rows.now) result before after }
+        AddsToPage (flat_map row_listing rows.now) result before after }
 {
     let mut text = String::new(alloc);
     for row in rows {
@@ -94,7 +94,7 @@ pub fn write_rows<S: Sink>(
     sink: &mut S,
     report: &JsonReport,
 ) -> Result<(), OutsideFault>
-    ensures { Puts (lines_text report.now) result (S.text sink.old) (S.text sink.new)
+    ensures { Puts (listing_text report.now) result (S.text sink.old) (S.text sink.new)
         (S.faults sink.old) (S.faults sink.new) }
 {
     let mut page = new_page(alloc)?;

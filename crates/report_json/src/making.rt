@@ -81,7 +81,7 @@ pub fn json_of(
         rounds,
         skipped: stack.skipped_total(),
         states,
-        strokes: stack.stroke_count(),
+        strokes: stack.count_strokes(alloc)?,
         rows: rows(alloc, stack.outlines(), conflicts)?,
     })
 }

@@ -8,7 +8,7 @@ ghost use Rattle.steno_order.specs.Reading.{spelt_strokes};
 ghost use Rattle.dict_json.specs.Reading.{reading};
 ghost use Rattle.report_json.specs.JsonFaults.{IsJsonCause};
 ghost use Rattle.report_json.specs.JsonReports.{IsJsonReport, IsJsonRow, number_value, outline_value, report_value, row_value};
-ghost use Rattle.report_json.specs.inside.Readings.{AreWords, IsRefused, IsWithin, report_object, row_object, rows_value, words_value};
+ghost use Rattle.report_json.specs.inside.Readings.{AreRowWords, IsPartRefused, IsWithin, report_object, row_object, rows_value, words_value};
 
 use crate::faults::JsonFault;
 use crate::parts::{ReportParts, RowParts, report_parts, row_parts};
@@ -26,7 +26,7 @@ pub(crate) const MOST: u64 = 4_294_967_295;
 fn number_in(value: &Value, least: u64, most: u64) -> Result<u64, JsonFault>
     ensures ok { IfOk result (λ n. view value.now ≡ number_value n) }
     ensures within { IfOk result (IsWithin least most) }
-    ensures err { IfErr result (IsRefused (IsWithin least most) number_value (view value.now)) }
+    ensures err { IfErr result (IsPartRefused (IsWithin least most) number_value (view value.now)) }
 {
     match value.as_u64() {
         Some(number) => {
@@ -46,7 +46,7 @@ fn if_canonical(outline: Outline, text: &str, again: &mut String) -> Result<Outl
     requires is { IsOutline outline }
     ensures ok { IfOk result (λ outline. text.now ≡ canonical_text outline) }
     ensures is_outline { IfOk result IsOutline }
-    ensures err { IfErr result (IsRefused IsOutline canonical_text text.now) }
+    ensures err { IfErr result (IsPartRefused IsOutline canonical_text text.now) }
 {
     again.clear();
     write_outline(outline.strokes(), again)?;
@@ -65,7 +65,7 @@ pub(crate) fn outline_of(
 ) -> Result<Outline, JsonFault>
     ensures ok { IfOk result (λ outline. text.now ≡ canonical_text outline) }
     ensures is_outline { IfOk result IsOutline }
-    ensures err { IfErr result (IsRefused IsOutline canonical_text text.now) }
+    ensures err { IfErr result (IsPartRefused IsOutline canonical_text text.now) }
 {
     if text.len() as u64 > MOST {
         return Err(JsonFault::NotReport);
@@ -82,7 +82,7 @@ pub(crate) fn outline_of(
 fn outline_in(alloc: Global, value: &Value) -> Result<Outline, JsonFault>
     ensures ok { IfOk result (λ outline. view value.now ≡ outline_value outline) }
     ensures is_outline { IfOk result IsOutline }
-    ensures err { IfErr result (IsRefused IsOutline outline_value (view value.now)) }
+    ensures err { IfErr result (IsPartRefused IsOutline outline_value (view value.now)) }
 {
     match value {
         Value::String(text) => outline_of(alloc, text, &mut String::new(alloc)),
@@ -95,7 +95,7 @@ fn outlines_in(alloc: Global, values: &[Value]) -> Result<Vec<Outline>, JsonFaul
     ensures ok { IfOk result (λ outlines. map view values.now ≡ map outline_value outlines.items) }
     ensures are { IfOk result (λ outlines. All IsOutline outlines.items) }
     ensures err { IfErr result
-        (IsRefused (All IsOutline) (map outline_value) (map view values.now)) }
+        (IsPartRefused (All IsOutline) (map outline_value) (map view values.now)) }
 {
     let mut outlines = Vec::with_capacity(alloc, values.len())?;
     for value in values {
@@ -107,8 +107,8 @@ fn outlines_in(alloc: Global, values: &[Value]) -> Result<Vec<Outline>, JsonFaul
 /// The words of a value, one or more.
 fn words_in(alloc: Global, value: &Value) -> Result<Vec<Outline>, JsonFault>
     ensures ok { IfOk result (λ words. view value.now ≡ words_value words.items) }
-    ensures are { IfOk result (λ words. AreWords words.items) }
-    ensures err { IfErr result (IsRefused AreWords words_value (view value.now)) }
+    ensures are { IfOk result (λ words. AreRowWords words.items) }
+    ensures err { IfErr result (IsPartRefused AreRowWords words_value (view value.now)) }
 {
     match value {
         Value::Array(values) => {
@@ -129,7 +129,7 @@ fn row_of(alloc: Global, parts: &RowParts<'_>) -> Result<JsonRow, JsonFault>
         (view parts.now.place.now) (view parts.now.strokes.now) (view parts.now.words.now)
         ≡ row_value row) }
     ensures is_row { IfOk result IsJsonRow }
-    ensures err { IfErr result (IsRefused IsJsonRow row_value (row_object
+    ensures err { IfErr result (IsPartRefused IsJsonRow row_value (row_object
         (view parts.now.outline.now) (view parts.now.place.now) (view parts.now.strokes.now)
         (view parts.now.words.now))) }
 {
@@ -149,7 +149,7 @@ fn row_of(alloc: Global, parts: &RowParts<'_>) -> Result<JsonRow, JsonFault>
 fn row_in(alloc: Global, value: &Value) -> Result<JsonRow, JsonFault>
     ensures ok { IfOk result (λ row. view value.now ≡ row_value row) }
     ensures is_row { IfOk result IsJsonRow }
-    ensures err { IfErr result (IsRefused IsJsonRow row_value (view value.now)) }
+    ensures err { IfErr result (IsPartRefused IsJsonRow row_value (view value.now)) }
 {
     match row_parts(value) {
         Some(parts) => row_of(alloc, &parts),
@@ -161,7 +161,7 @@ fn row_in(alloc: Global, value: &Value) -> Result<JsonRow, JsonFault>
 fn rows_of(alloc: Global, values: &[Value]) -> Result<Vec<JsonRow>, JsonFault>
     ensures ok { IfOk result (λ rows. map view values.now ≡ map row_value rows.items) }
     ensures are { IfOk result (λ rows. All IsJsonRow rows.items) }
-    ensures err { IfErr result (IsRefused (All IsJsonRow) (map row_value) (map view values.now)) }
+    ensures err { IfErr result (IsPartRefused (All IsJsonRow) (map row_value) (map view values.now)) }
 {
     let mut rows = Vec::with_capacity(alloc, values.len())?;
     for value in values {
@@ -174,7 +174,7 @@ fn rows_of(alloc: Global, values: &[Value]) -> Result<Vec<JsonRow>, JsonFault>
 fn rows_in(alloc: Global, value: &Value) -> Result<Vec<JsonRow>, JsonFault>
     ensures ok { IfOk result (λ rows. view value.now ≡ rows_value rows.items) }
     ensures are { IfOk result (λ rows. All IsJsonRow rows.items) }
-    ensures err { IfErr result (IsRefused (All IsJsonRow) rows_value (view value.now)) }
+    ensures err { IfErr result (IsPartRefused (All IsJsonRow) rows_value (view value.now)) }
 {
     match value {
         Value::Array(values) => rows_of(alloc, values),
@@ -189,7 +189,7 @@ fn report_of(alloc: Global, parts: &ReportParts<'_>) -> Result<JsonReport, JsonF
         (view parts.now.skipped.now) (view parts.now.states.now) (view parts.now.strokes.now)
         ≡ report_value report) }
     ensures is_report { IfOk result IsJsonReport }
-    ensures err { IfErr result (IsRefused IsJsonReport report_value (report_object
+    ensures err { IfErr result (IsPartRefused IsJsonReport report_value (report_object
         (view parts.now.conflicts.now) (view parts.now.entries.now) (view parts.now.folded.now)
         (view parts.now.rounds.now) (view parts.now.skipped.now) (view parts.now.states.now)
         (view parts.now.strokes.now))) }
@@ -216,7 +216,7 @@ fn report_of(alloc: Global, parts: &ReportParts<'_>) -> Result<JsonReport, JsonF
 fn report_in(alloc: Global, value: &Value) -> Result<JsonReport, JsonFault>
     ensures ok { IfOk result (λ report. view value.now ≡ report_value report) }
     ensures is_report { IfOk result IsJsonReport }
-    ensures err { IfErr result (IsRefused IsJsonReport report_value (view value.now)) }
+    ensures err { IfErr result (IsPartRefused IsJsonReport report_value (view value.now)) }
 {
     match report_parts(value) {
         Some(parts) => report_of(alloc, &parts),

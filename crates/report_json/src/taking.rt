@@ -7,7 +7,7 @@ ghost use Rattle.json.specs.Reads.{token_of};
 ghost use Rattle.json.specs.Token.{begin_array, begin_object, end_array, end_object, key, string};
 ghost use Rattle.steno_rules.specs.Outlines.{IsOutline};
 ghost use Rattle.steno_order.specs.Canonical.{canonical_text};
-ghost use Rattle.report_json.specs.inside.Readings.{AreWords, IsWithin};
+ghost use Rattle.report_json.specs.inside.Readings.{AreRowWords, IsWithin};
 ghost use Rattle.report_json.specs.inside.Tokens.{each_token, number_tokens, word_tokens};
 
 use crate::faults::JsonFault;
@@ -152,7 +152,7 @@ pub(crate) fn take_words(
 ) -> Result<Vec<Outline>, JsonFault>
     ensures taken { IfOk result
         (λ words. reader.old ≡ each_token word_tokens words.items (end_array ∷ reader.new)) }
-    ensures are { IfOk result (λ words. AreWords words.items) }
+    ensures are { IfOk result (λ words. AreRowWords words.items) }
 {
     let mut words = Vec::new(alloc);
     'words: while !reader.take_end_array() {

@@ -28,7 +28,7 @@ use Rattle.settled_laws.proofs.ChosenOpenLemmas.{chosen_open_least, finished_sta
 use Rattle.settled_laws.proofs.SettledLemmas.{Settled-hit}
 use Rattle.settled_pairs.specs.declared.finishes.Finish.{Finish}
 use Rattle.settled_pairs.specs.Finishes.{EndsBy, IsFinishBy, IsFinishOf}
-use Rattle.settled_pairs.specs.inside.FoundRows.{IsFoundRow}
+use Rattle.settled_pairs.specs.inside.FoundRows.{IsFoundPair}
 use Rattle.settled_pairs.specs.inside.Sums.{HasNoSumBelow, HasOpenNumber, IsFirstSum, IsFirstSumOf}
 use Rattle.settled_pairs.proofs.FirstSums.{first_chosen, halves, open_below}
 use Rattle.settled_pairs.proofs.SumLemmas.{finish_strokes}
@@ -115,7 +115,7 @@ distance_is entries words e place bound word f are h finishes =
 pub row_found : (entries words : List (List ℕ)) (table : List ℕ) (e place word : ℕ) (f : Finish) (made : List ℕ) → AreEntries entries → AreWords entries words → All IsOutline entries → number_count entries ≤ 33554432 →
     AreSettled 0 (kept_lists entries words) table → e < length entries → (h : IsFirstSum entries words e place (number_count entries) word) → IsFinishOf entries words h.is.is.state f →
     made ≡ numbers_among entries (example entries words table h.is.moves h.number) →
-    IsFoundRow entries words table (record { entry = e; place = place; strokes = h.n; words = made ++ if_there f.word })
+    IsFoundPair entries words table (record { entry = e; place = place; strokes = h.n; words = made ++ if_there f.word })
 row_found entries words table e place word f made are are_words outlines few settled inside h finishes is =
     let s : State = h.is.is.state in
     let o : List ℕ = outline_of entries e in
@@ -205,12 +205,12 @@ pub row_of_sum : (entries words : List (List ℕ)) (table : List ℕ) (e place w
     AreSettled 0 (kept_lists entries words) table → e < length entries → IsFirstSum entries words e place (number_count entries) word →
     ((s : State) → state_of_number entries words (word % 4294967296) ≡ Some s → IsFinishOf entries words s f) →
     made ≡ numbers_among entries (example entries words table (word / 4294967296 - f.strokes) (word % 4294967296)) →
-    IsFoundRow entries words table (record { entry = e; place = place; strokes = word / 4294967296; words = made ++ if_there f.word })
+    IsFoundPair entries words table (record { entry = e; place = place; strokes = word / 4294967296; words = made ++ if_there f.word })
 row_of_sum entries words table e place word f made are are_words outlines few settled inside h finish is =
     let parts = halves_of entries words e place word f are few h finish in
     let is' = is ∙ ap₂ (λ k m. numbers_among entries (example entries words table k m)) parts.distance parts.number in
     let row = row_found entries words table e place word f made are are_words outlines few settled inside h parts.finish is' in
-    subst (λ k. IsFoundRow entries words table (record { entry = e; place = place; strokes = k; words = made ++ if_there f.word })) (sym parts.sum) row
+    subst (λ k. IsFoundPair entries words table (record { entry = e; place = place; strokes = k; words = made ++ if_there f.word })) (sym parts.sum) row
 
 -- ---- the word in a slot
 

@@ -10,7 +10,7 @@ use Rattle.longest_match.specs.Rows.{AreSmall, IsBefore, Row}
 use Rattle.conflict_example.specs.inside.FoundRows.{IsPairBefore}
 use Rattle.settled_laws.specs.SettledPairs.{SettledPair}
 use Rattle.settled_pairs.specs.SettledRows.{AreChosenRows, AreSettledPairs}
-use Rattle.settled_pairs.specs.inside.FoundRows.{AreRowsBefore, IsFoundRow}
+use Rattle.settled_pairs.specs.inside.FoundRows.{AreRowsBefore, IsFoundPair}
 use Rattle.pair_slots.proofs.Slots.{few_slots, next_slots}
 
 -- Before the first pair there is no row.
@@ -54,10 +54,10 @@ rows_without entries words table e place rows apart h = record {
 
 -- A pair that stays gets its row.
 pub rows_with : (entries words : List (List ℕ)) (table : List ℕ) (e place : ℕ) (rows : List Row) (row : Row) → 0 < place →
-    IsFoundRow entries words table row → row.entry ≡ e → row.place ≡ place →
+    IsFoundPair entries words table row → row.entry ≡ e → row.place ≡ place →
     AreRowsBefore entries words table e place rows → AreRowsBefore entries words table e (place + 1) (rows ++ row ∷ [])
 rows_with entries words table e place rows row some found entry_is place_is h = record {
-  each = All-push (IsFoundRow entries words table) rows row h.each found;
+  each = All-push (IsFoundPair entries words table) rows row h.each found;
   before = All-push (λ r. IsPairBefore e (place + 1) r.entry r.place) rows row (λ k d below. earlier_place e place _ _ (h.before k d below)) (inr (entry_is, omega (arith, place_is)));
   all = λ f other before pair. elim (next_place e place f other before) [
     | inl earlier ↦ let has = h.all f other earlier pair in record { row = has.row; there = Contains-append_left rows (row ∷ []) has.row has.there; entry_is = has.entry_is; place_is = has.place_is }

@@ -10,7 +10,7 @@ use Rattle.settled_laws.specs.OpenHits.{CanFinish}
 use Rattle.settled_laws.specs.ChosenOpenHits.{ended_word, finished_example}
 use Rattle.settled_laws.proofs.ChosenOpenLemmas.{chosen_open_once}
 use Rattle.conflict_example.proofs.OneRow.{all_at, before_itself, before_trans, map_some, row_of, row_same, same_members}
-use Rattle.settled_pairs.specs.SettledRows.{AreChosenRows, AreSettledPairs, IsChosenRow, IsShortestSettled}
+use Rattle.settled_pairs.specs.SettledRows.{AreChosenRows, AreSettledPairs, IsChosenPair, IsShortestSettled}
 
 -- ---- the word that is ended
 
@@ -87,12 +87,12 @@ spelt_same entries words table e s t n k number other z y ws vs states moves num
     spelt_once entries words table e s n number z y ws vs h at_number long
 
 -- the words of a chosen row
-spelt_of : (entries words : List (List ℕ)) (table : List ℕ) (row : Row) → (h : IsChosenRow entries words table row)
+spelt_of : (entries words : List (List ℕ)) (table : List ℕ) (row : Row) → (h : IsChosenPair entries words table row)
     → IsSpelt entries words table (outline_of entries row.entry) h.hit.is.state h.distance h.number h.z row.words
 spelt_of entries words table row h = record { words_are = h.words_are; can = h.hit.is.can; first = h.first }
 
 -- two chosen rows of one pair have the same words
-words_once : (entries words : List (List ℕ)) (table : List ℕ) (entry place s t : ℕ) (ws vs : List ℕ) → IsChosenRow entries words table (row_of entry place s ws) → IsChosenRow entries words table (row_of entry place t vs) → ws ≡ vs
+words_once : (entries words : List (List ℕ)) (table : List ℕ) (entry place s t : ℕ) (ws vs : List ℕ) → IsChosenPair entries words table (row_of entry place s ws) → IsChosenPair entries words table (row_of entry place t vs) → ws ≡ vs
 words_once entries words table entry place s t ws vs h g =
     let once = chosen_open_once entries words entry place h.number h.distance g.number g.distance h.z g.z h.hit g.hit in
     let states = some_same h.hit.is.state g.hit.is.state (sym h.hit.is.is ∙ ap (state_of_number entries words) once.0 ∙ g.hit.is.is) in
@@ -116,12 +116,12 @@ at_pair P row entry place e p h =
     subst (λ (i : ℕ). P (row_of entry i row.strokes row.words)) (sym p) (subst (λ (i : ℕ). P (row_of i row.place row.strokes row.words)) (sym e) h)
 
 -- two rows of one pair are one
-rows_agree : (entries words : List (List ℕ)) (table : List ℕ) (a b : Row) → IsShortestSettled entries words a → IsShortestSettled entries words b → IsChosenRow entries words table a → IsChosenRow entries words table b
+rows_agree : (entries words : List (List ℕ)) (table : List ℕ) (a b : Row) → IsShortestSettled entries words a → IsShortestSettled entries words b → IsChosenPair entries words table a → IsChosenPair entries words table b
     → a.entry ≡ b.entry → a.place ≡ b.place → a ≡ b
 rows_agree entries words table a b sa sb ca cb entry place =
     row_same a b entry place
     (strokes_once entries words a.entry a.place a.strokes b.strokes a.words b.words sa (at_pair (IsShortestSettled entries words) b a.entry a.place entry place sb))
-    (words_once entries words table a.entry a.place a.strokes b.strokes a.words b.words ca (at_pair (IsChosenRow entries words table) b a.entry a.place entry place cb))
+    (words_once entries words table a.entry a.place a.strokes b.strokes a.words b.words ca (at_pair (IsChosenPair entries words table) b a.entry a.place entry place cb))
 
 rows_to : (entries words : List (List ℕ)) (table : List ℕ) (xs ys : List Row) → AreSettledPairs entries words xs → AreSettledPairs entries words ys → AreChosenRows entries words table xs → AreChosenRows entries words table ys
     → (z : Row) → Contains xs z → Contains ys z
@@ -129,7 +129,7 @@ rows_to entries words table xs ys cx cy hx hy z there =
     let shortest = all_at (IsShortestSettled entries words) xs z cx.each there in
     let has = cy.all z.entry z.place (record { ws = z.words; are_words = shortest.are_words; stays = shortest.stays }) in
     let same = rows_agree entries words table has.row z (all_at (IsShortestSettled entries words) ys has.row cy.each has.there) shortest
-    (all_at (IsChosenRow entries words table) ys has.row hy has.there) (all_at (IsChosenRow entries words table) xs z hx there) has.entry_is has.place_is in
+    (all_at (IsChosenPair entries words table) ys has.row hy has.there) (all_at (IsChosenPair entries words table) xs z hx there) has.entry_is has.place_is in
     subst (λ (r : Row). Contains ys r) same has.there
 
 -- Two lists of rows that are exactly the pairs that stay, each with the words of its chosen open hit, are one.

@@ -41,7 +41,7 @@ HasConflicts entries words rows =
 
 -- the walk to the chosen open hit of the row's pair, back by the settled words of the table, and the word that is ended there
 -- spell the row's words; of the words that so few strokes end it is the first one
-pub record IsChosenRow (entries words : List (List ℕ)) (table : List ℕ) (row : Row) : Type 0 where
+pub record IsChosenPair (entries words : List (List ℕ)) (table : List ℕ) (row : Row) : Type 0 where
   pub number : ℕ
   pub distance : ℕ
   pub z : List ℕ
@@ -53,4 +53,4 @@ pub record IsChosenRow (entries words : List (List ℕ)) (table : List ℕ) (row
       → CanFinish entries words hit.is.state (outline_of entries row.entry) y → length y ≡ length z → w ≤ other
 
 abbrev pub AreChosenRows : List (List ℕ) → List (List ℕ) → List ℕ → List Row → Type 0
-AreChosenRows entries words table rows = All (IsChosenRow entries words table) rows
+AreChosenRows entries words table rows = All (IsChosenPair entries words table) rows

@@ -14,7 +14,7 @@ ghost use Rattle.conflict_example.specs.inside.Spellings.{if_there};
 ghost use Rattle.pair_slots.specs.Slots.{AreStarts};
 ghost use Rattle.settled_pairs.specs.Finishes.{IsFinishOf};
 ghost use Rattle.settled_pairs.specs.SettledRows.{AreChosenRows, AreSettledPairs, HasConflicts};
-ghost use Rattle.settled_pairs.specs.inside.FoundRows.{AreRowsBefore, IsFoundRow};
+ghost use Rattle.settled_pairs.specs.inside.FoundRows.{AreRowsBefore, IsFoundPair};
 ghost use Rattle.settled_pairs.specs.inside.Near.{AreNear};
 ghost use Rattle.settled_pairs.specs.inside.Sums.{AreFirstSums, HasOpenNumber, IsFirstSum};
 
@@ -99,7 +99,7 @@ fn row(
     requires hit { let ends = words_in trie.now words.now in
         IsFirstSum trie.now ends entry place (number_count trie.now) hit }
     ensures found { let ends = words_in trie.now words.now in
-        IfOk result (IsFoundRow trie.now ends table.now) }
+        IfOk result (IsFoundPair trie.now ends table.now) }
     ensures entry { IfOk result (λ row. row.entry ≡ entry) }
     ensures place { IfOk result (λ row. row.place ≡ place) }
 {

@@ -10,7 +10,7 @@ use Rattle.outside.specs.declared.fault.Way.TheVariants.{Writing}
 use Rattle.dict_stack.specs.Stacks.{most_dictionaries}
 use Rattle.report.specs.Refusals.{RefusalView, refusal_text}
 use Rattle.commands.specs.Commands.{CommandView}
-use Rattle.commands.specs.Inputs.{dictionaries_of, reads_files, writes}
+use Rattle.commands.specs.Inputs.{dictionary_names, reads_files, writes}
 use Rattle.audit_top.specs.Statuses.{refusal_status}
 use Rattle.audit_top.specs.Outcomes.{Expected, Inputs, Written, refused}
 use Rattle.audit_top.specs.Runs.{AreInputs, EndsWhole, FailedAt, FailsNamed, FailsToRead, IsBegun, IsFilePart, MayProduce, OpensNamed, OutputView, World, Writes}
@@ -79,7 +79,7 @@ IsAnswered May before after (Err refusal) = IsStopped May before after (stop_of 
 -- a command that isn't refused before it asks for memory
 abbrev pub needs_memory : Option CommandView → Bool
 needs_memory None = false
-needs_memory (Some command) = nat_le (length (dictionaries_of command)) most_dictionaries
+needs_memory (Some command) = nat_le (length (dictionary_names command)) most_dictionaries
 
 -- memory ran out where it was needed, and no file failed
 pub record RanOut (command : Option CommandView) (before after : World) : Type 0 where

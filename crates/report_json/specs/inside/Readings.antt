@@ -8,10 +8,10 @@ use Rattle.report_json.specs.declared.faults.JsonFault.{JsonFault}
 use Rattle.report_json.specs.declared.faults.JsonFault.TheVariants.{NotJson, NotReport, Memory}
 
 -- the value is made of none of these, or memory ran out
-abbrev pub IsRefused : {A V : Type 0} → (A → Type 0) → (A → V) → V → JsonFault → Type 0
-IsRefused Is made value NotJson = ⊥
-IsRefused {A} {V} Is made value NotReport = (a : A) → Is a → value ≡ made a → ⊥
-IsRefused Is made value Memory = ⊤
+abbrev pub IsPartRefused : {A V : Type 0} → (A → Type 0) → (A → V) → V → JsonFault → Type 0
+IsPartRefused Is made value NotJson = ⊥
+IsPartRefused {A} {V} Is made value NotReport = (a : A) → Is a → value ≡ made a → ⊥
+IsPartRefused Is made value Memory = ⊤
 
 -- the number is one of these
 pub record IsWithin (least most n : ℕ) : Type 0 where
@@ -19,7 +19,7 @@ pub record IsWithin (least most n : ℕ) : Type 0 where
   pub at_most : n ≤ most
 
 -- one outline or more
-pub record AreWords (words : List (List ℕ)) : Type 0 where
+pub record AreRowWords (words : List (List ℕ)) : Type 0 where
   pub some : 0 < length words
   pub are : All IsOutline words
 

@@ -1,9 +1,10 @@
 use Rattle.std.proofs.Common.{◌<◌, ◌++◌, ◌∙◌, [], ◌∷◌, ap, arith, length, map, string_bytes, List, ℕ}
 use Rattle.std.proofs.lemmas.List.{length-map}
 use Rattle.commands.specs.Commands.{is_spelt}
+use Rattle.commands.proofs.CommandLaw.{readable_at}
 use Rattle.dict_files.proofs.Turns.{arg-turn}
 use Rattle.audit_top.specs.Translated.{typed_strokes}
-use Rattle.audit_top.proofs.Typed.{parts-more, spelt-at, typed-more}
+use Rattle.audit_top.proofs.Typed.{parts-more, typed-more}
 use Rattle.audit_top.proofs.explain.read_typed.Goals as goal
 
 pub read_readable-requires-clause-short : goal.read_readable-requires-clause-short
@@ -20,7 +21,7 @@ read_readable-requires-clause-readable c =
     let args = map string_bytes c.args.outlines.now in
     let within : c.loop-outline.outline-index < length args = omega (arith, length-map c.args.outlines.now string_bytes, c.loop-outline-test.true) in
     let turn = arg-turn c.args.outlines.now c.loop-outline.outline-index c.outline-item.result c.outline-item.is c.loop-outline-test.true in
-    ap is_spelt (c.as_str.ensures.value ∙ turn) ∙ spelt-at args c.loop-outline.outline-index c.requires.readable within
+    ap is_spelt (c.as_str.ensures.value ∙ turn) ∙ readable_at args c.loop-outline.outline-index c.requires.readable within
 
 pub loop-outline-preserved : goal.loop-outline-preserved
 loop-outline-preserved c =

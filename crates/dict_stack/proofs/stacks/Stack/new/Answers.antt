@@ -1,7 +1,6 @@
 use Rattle.std.proofs.Common.{◌≤◌, ◌∙◌, sym, ap, subst, length}
 use Rattle.std.proofs.lemmas.Result.{err_from_is_err_and}
 use Rattle.dict_stack.specs.Stacks.{all_outlines, most_entries}
-use Rattle.dict_stack.specs.Appearances.{strokes_of_all}
 use Rattle.dict_stack.specs.inside.Candidates.{IsCollected}
 use Rattle.dict_stack.specs.Faults.{IsStackCause}
 use Rattle.dict_stack.proofs.ViewLemmas.{view_is, view_stands, total_is, outlines_stand}
@@ -23,7 +22,6 @@ invariant_of-result c =
     let few : length c.in_ok-outlines.field-0.outlines.items ≤ most_entries = subst (λ l. length l ≤ most_entries) (sym c.in_ok-outlines.ensures.merged.outlines_are) c.in_ok-outlines.ensures.few in (
       view_stands c.args.dictionaries.items c.args.word_files.items c.in_ok-candidates.field-0 c.in_ok-outlines.field-0 c.requires.each collected c.in_ok-outlines.ensures.merged c.requires.few few,
       total_is c.args.dictionaries.items c.args.word_files.items c.in_ok-candidates.field-0 c.in_ok-outlines.field-0 c.requires.each collected c.in_ok-outlines.ensures.merged,
-      c.in_ok-strokes.ensures ∙ ap strokes_of_all c.deref-2.ensures.value,
     )
 
 pub returns-clause-stack : goal.returns-clause-stack
