@@ -28,7 +28,7 @@ pub(crate) fn last_begun(parts: &[Part], from: u32, number: u32) -> u32
     node as u32
 }
 
-/// How large blocks are: at least 64 numbers, and so many that there are no more blocks than nodes.
+/// How large blocks are: at least 16 numbers, and so many that there are no more blocks than nodes.
 fn block_bits(nodes: usize, count: u32) -> u32
     requires some { 0 < nodes }
     requires nodes { nodes < 2 ^ 32 }
@@ -36,7 +36,7 @@ fn block_bits(nodes: usize, count: u32) -> u32
     ensures bits { result < 32 }
     ensures few { count < nodes * 2 ^ result }
 {
-    for bits in 6..26 {
+    for bits in 4..26 {
         if u64::from(count) < (nodes as u64) << bits {
             return bits;
         }
