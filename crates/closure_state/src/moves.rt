@@ -130,12 +130,11 @@ impl<'a> Moves<'a> {
         ensures next { IsNextTarget self.old result self.new.left }
         ensures state { IfNodeState self.old.entries self.old.words result }
     {
-        if let Some(target) = self.waiting.take() {
-            return Some(target);
+        if self.waiting.is_empty() {
+            self.waiting = self
+                .strokes
+                .refill(self.trie, self.windows, self.words, self.state);
         }
-        self.waiting = self
-            .strokes
-            .refill(self.trie, self.windows, self.words, self.state);
         self.waiting.take()
     }
 }

@@ -38,9 +38,9 @@ impl Strokes<'_> {
         }
     }
 
-    /// The targets by the next stroke that has some; none where no stroke is left. It isn't inlined, so that a call that only
-    /// takes a target that waits saves no registers.
-    #[inline(never)]
+    /// The targets by the next stroke that has some; none where no stroke is left. It is inlined, so that they stay in
+    /// registers.
+    #[inline(always)]
     pub(crate) fn refill(
         &mut self,
         trie: &Trie,
