@@ -1,17 +1,15 @@
 -- What a numbering tells of a number's state.
-use Rattle.std.proofs.Common.{◌≡◌, ℕ, zero, suc, ◌-◌, ◌<◌, List, [], ◌∷◌, ◌++◌, length, drop, false, nat_eq, Option, Some, None, refl, sym, ap, ◌∙◌, arith}
+use Rattle.std.proofs.Common.{◌≡◌, ℕ, zero, suc, ◌<◌, List, [], ◌∷◌, ◌++◌, length, append-nil, false, nat_eq, Option, None, refl, sym, ap, ◌∙◌, arith}
 use Rattle.std.proofs.lemmas.Bool.Decides.{nat_tests}
-use Rattle.std.proofs.lemmas.List.{drop_at, length_push}
 use Rattle.steno_rules.specs.Nodes.{nodes}
 use Rattle.steno_rules.specs.Outlines.{outline_of}
 use Rattle.steno_rules.specs.States.{State as Abstract}
-use Rattle.steno_rules.specs.StateNumbers.{longer, state_of_number}
-use Rattle.steno_rules.proofs.Lists.{unsnoc}
+use Rattle.steno_rules.specs.StateNumbers.{state_of_number}
 use Rattle.steno_rules.proofs.NodeLemmas.{nodes-first, nodes-rising}
 use Rattle.steno_rules.proofs.Numbers.{outline_of-once}
 use Rattle.closure_laws.specs.Examples.{last_stroke, or_fresh}
 use Rattle.closure_state.specs.declared.state.State.{State}
-use Rattle.state_numbering.specs.ByNumber.{HasNoStroke, IsStateOf, IsStrokeInto}
+use Rattle.state_numbering.specs.ByNumber.{IsStateOf}
 use Rattle.state_numbering.specs.Numberings.{NumberingView}
 use Rattle.conflict_example.specs.inside.Spellings.{numbered_state}
 
@@ -38,24 +36,7 @@ pub open_test : (v : NumberingView) (number : ℕ) (s : State) → IsStateOf v n
 open_test v number s h =
     node_test v.entries s.word h.state.word ∙ ap (λ (o : Option Abstract). nat_eq (length (or_fresh o).v) 0) (sym h.number_is)
 
--- the last stroke of a list that ends with it
-last_of : (x front : List ℕ) (code : ℕ) → x ≡ front ++ code ∷ [] → drop (length x - 1) x ≡ code ∷ []
-last_of x front code is = let short : length (front ++ code ∷ []) - 1 ≡ length front = omega (arith, length_push front code) in
-    rw (is, short) (drop_at front (code ∷ []) (length front) refl)
-
--- The stroke into a number's state is its last one.
-pub stroke_is : (v : NumberingView) (number code : ℕ) → IsStrokeInto v number code → last_stroke (numbered_state v.entries v.words number) ≡ code ∷ []
-stroke_is v number code h =
-    ap (λ (o : Option Abstract). last_stroke (or_fresh o)) h.number_is ∙ h.stroke
-
--- Where there is none the state has no strokes.
-pub stroke_none : (v : NumberingView) (number : ℕ) → HasNoStroke v number → last_stroke (numbered_state v.entries v.words number) ≡ []
-stroke_none v number none = by (state_of_number v.entries v.words number) refl
-  where
-    cut : (s : Abstract) → state_of_number v.entries v.words number ≡ Some s → (x : List ℕ) → longer s ≡ x → drop (length x - 1) x ≡ []
-    cut s is [] same = refl
-    cut s is (c ∷ x) same = let parts = unsnoc c x in absurd (none parts.1 (record { state = s; number_is = is; stroke = last_of (longer s) parts.0 parts.1 (same ∙ parts.2) }))
-
-    by : (o : Option Abstract) → state_of_number v.entries v.words number ≡ o → last_stroke (or_fresh o) ≡ []
-    by None is = refl
-    by (Some s) is = cut s is (longer s) refl
+-- A number without a state adds no stroke.
+pub no_stroke : (v : NumberingView) (number : ℕ) (strokes : List ℕ) → state_of_number v.entries v.words number ≡ None →
+    strokes ≡ strokes ++ last_stroke (numbered_state v.entries v.words number)
+no_stroke v number strokes none = sym (ap (λ (o : Option Abstract). strokes ++ last_stroke (or_fresh o)) none ∙ append-nil strokes)

@@ -27,17 +27,14 @@ use stroke::Outline;
 fn row(
     alloc: Global,
     numbering: &Numbering<'_>,
-    entries: &[Outline],
     words: &[u64],
     entry: u32,
     place: u8,
     hit: u64,
     scratch: &mut Scratch,
 ) -> Result<Conflict, AllocError>
-    requires entries { numbering.now.entries ≡ entries.now }
-    requires few { length entries.now ≤ most_entries }
     requires closure { IsClosure numbering.now words.now }
-    requires entry { entry < length entries.now }
+    requires entry { entry < length numbering.now.entries }
     requires hit { let v = numbering.now in
         IsFirstHit v.entries v.words entry place (number_count v.entries) hit }
     ensures found { IfOk result (IsFoundRow numbering.now.entries numbering.now.words words.now) }
@@ -46,7 +43,7 @@ fn row(
 {
     let distance = (hit / NUMBERS) as u32;
     let number = (hit % NUMBERS) as u32;
-    let made = example(alloc, numbering, entries, words, number, distance, scratch)?;
+    let made = example(alloc, numbering, words, number, distance, scratch)?;
     Ok(Conflict::new(entry, place, distance, made))
 }
 
@@ -79,7 +76,7 @@ fn push_rows(
     for place in 1..len {
         let hit = best[start + (place as usize - 1)];
         if hit != u64::MAX {
-            rows.push(row(alloc, numbering, entries, words, entry, place, hit, scratch)?)?;
+            rows.push(row(alloc, numbering, words, entry, place, hit, scratch)?)?;
         }
     }
     Ok(())

@@ -81,7 +81,6 @@ fn row(
     words: &WordSet,
     near: &[u8],
     numbering: &Numbering<'_>,
-    stack: &Stack,
     table: &[u64],
     entry: u32,
     place: u8,
@@ -92,7 +91,6 @@ fn row(
     requires words { IsWordSet trie.now words.now }
     requires near { AreNear trie.now (words_in trie.now words.now) near.now }
     requires numbering { numbering.now ≡ numbering_of trie.now words.now }
-    requires entries { trie.now ≡ stack.now.outlines }
     requires outlines { All IsOutline trie.now }
     requires closure { IsClosure numbering.now table.now }
     requires entry { entry < length trie.now }
@@ -107,15 +105,7 @@ fn row(
     let strokes = (hit / NUMBERS) as u32;
     let finish = finish_at(trie, windows, words, near, numbering, number);
     let distance = strokes - finish.strokes;
-    let mut made = example(
-        alloc,
-        numbering,
-        stack.outlines(),
-        table,
-        number,
-        distance,
-        scratch,
-    )?;
+    let mut made = example(alloc, numbering, table, number, distance, scratch)?;
     push_ended(finish.word, &mut made)?;
     Ok(Conflict::new(entry, place, strokes, made))
 }
@@ -158,8 +148,7 @@ fn push_rows(
         let hit = least[start + (place as usize - 1)];
         if hit != u64::MAX {
             rows.push(row(
-                alloc, trie, windows, words, near, numbering, stack, table, entry, place, hit,
-                scratch,
+                alloc, trie, windows, words, near, numbering, table, entry, place, hit, scratch,
             )?)?;
         }
     }

@@ -5,3 +5,4 @@ pub mod DecodeLemmas
 pub mod StrokeLemmas
 pub mod FewTargets
 pub mod GraphRows
+pub mod FollowLemmas

@@ -12,7 +12,7 @@ use Rattle.state_numbering.specs.Numberings.{NumberingView}
 use Rattle.state_numbering.specs.ByNumber.{IsStateOf, IsStrokeInto, HasNoStroke}
 
 -- the last stroke of a list
-last_of : (x front : List ℕ) (code : ℕ) → x ≡ front ++ code ∷ [] → drop (length x - 1) x ≡ code ∷ []
+pub last_of : (x front : List ℕ) (code : ℕ) → x ≡ front ++ code ∷ [] → drop (length x - 1) x ≡ code ∷ []
 last_of x front code is = ap (λ y. drop (length y - 1) y) is ∙ drop_at front (code ∷ []) (length (front ++ code ∷ []) - 1) (omega (arith, length_push front code))
 
 -- The answer is that of the node of the state's longer list.

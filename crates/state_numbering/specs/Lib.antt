@@ -3,3 +3,4 @@ pub mod Causes
 pub mod ByNumber
 pub mod Cursors
 pub mod inside
+pub mod Following

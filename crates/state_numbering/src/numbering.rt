@@ -1,15 +1,16 @@
 //! From states to numbers and back.
 ghost use Rattle.std.specs.Prelude.{◌≡◌, ◌<◌, ◌≤◌, ◌^◌, IfErr, IfOk, MatchOption, None, length};
 ghost use Rattle.steno_rules.specs.ClosureGraphs.{numbers_by};
-ghost use Rattle.steno_rules.specs.Outlines.{AreWords};
+ghost use Rattle.steno_rules.specs.Outlines.{AreWords, entry_number};
 ghost use Rattle.steno_rules.specs.States.{kept_targets};
-ghost use Rattle.steno_rules.specs.StateNumbers.{number_count, state_number, state_of_number};
+ghost use Rattle.steno_rules.specs.StateNumbers.{longer, number_count, state_number, state_of_number};
 ghost use Rattle.steno_rules.specs.WordSets.{IsWordSet};
 ghost use Rattle.outline_trie.specs.Tries.{IsNode, node_strokes, suffix_of};
 ghost use Rattle.closure_state.specs.NodeStates.{IsNodeState, state_at};
 ghost use Rattle.state_numbering.specs.ByNumber.{HasNoHit, HasNoStroke, IsHitOf, IsStateOf, IsStrokeInto};
 ghost use Rattle.state_numbering.specs.Causes.{IsNumberCause, most_states};
 ghost use Rattle.state_numbering.specs.Cursors.{OwnsMoves, numbers_left};
+ghost use Rattle.state_numbering.specs.Following.{followed};
 ghost use Rattle.state_numbering.specs.Numberings.{numbering_of};
 
 use crate::fault::NumberFault;
@@ -175,5 +176,48 @@ impl<'a> Numbering<'a> {
     {
         let state = self.state(number)?;
         hit(self.trie, self.windows, &state)
+    }
+
+    /// The node of the longer of a state's two lists, the window where they are of equal length.
+    fn longer_node(&self, state: State) -> u32
+        requires { IsNodeState self.now.entries self.now.words state }
+        ensures node { IsNode self.now.entries result }
+        ensures longer { node_strokes self.now.entries result
+            ≡ longer (state_at self.now.entries state) }
+    {
+        if self.trie.depth(state.word) <= self.trie.depth(state.window) {
+            state.window
+        } else {
+            state.word
+        }
+    }
+
+    /// The node of a node's strokes and the last stroke of a state, None where no entry begins with them. The last stroke of
+    /// a state is that of the longer of its two lists, and where both are empty there is none. At most one look-up, and none
+    /// at the root.
+    pub fn follow(&self, node: u32, state: State) -> Option<u32>
+        requires node { IsNode self.now.entries node }
+        requires state { IsNodeState self.now.entries self.now.words state }
+        ensures { result ≡ followed self.now.entries node state }
+    {
+        let end = self.longer_node(state);
+        match self.trie.last(end) {
+            Some(stroke) => {
+                if node == 0 {
+                    self.windows.alone(end)
+                } else {
+                    self.trie.child(node, stroke)
+                }
+            }
+            None => Some(node),
+        }
+    }
+
+    /// The entry that a node is, None where it only begins one.
+    pub fn entry(&self, node: u32) -> Option<u32>
+        requires { IsNode self.now.entries node }
+        ensures { result ≡ entry_number self.now.entries (node_strokes self.now.entries node) }
+    {
+        self.trie.entry(node)
     }
 }

@@ -1,14 +1,12 @@
-use Rattle.std.proofs.Common.{◌<◌, sym, subst, length, List, ℕ}
 use Rattle.conflict_example.proofs.Noted.{row_of_hit, walk_of_hit}
 use Rattle.conflict_example.proofs.rows.row.Goals as goal
 
-pub example-requires-clause-walk : goal.example-requires-clause-walk
-example-requires-clause-walk c =
+pub example-requires : goal.example-requires
+example-requires c =
     walk_of_hit c.args.numbering.now c.args.words.now c.args.entry c.args.place c.args.hit c.requires.closure c.requires.hit
 
 pub returns-clause-found : goal.returns-clause-found
 returns-clause-found c =
     let v = c.args.numbering.now in
-    let inside = subst (λ (l : List (List ℕ)). c.args.entry < length l) (sym c.requires.entries) c.requires.entry in
     rw c.new.ensures
-    (row_of_hit v c.args.words.now c.args.entry c.args.place c.args.hit c.in_ok-made.made.items c.requires.closure c.requires.hit inside c.in_ok-made.ensures)
+    (row_of_hit v c.args.words.now c.args.entry c.args.place c.args.hit c.in_ok-made.made.items c.requires.closure c.requires.hit c.requires.entry c.in_ok-made.ensures)

@@ -12,8 +12,8 @@ finish_at-finish-requires-clause-opened c =
     let closure : IsClosure (numbering_of c.args.trie.now c.args.words.now) c.args.table.now = subst (λ (v : NumberingView). IsClosure v c.args.table.now) c.requires.numbering c.requires.closure in
     number_open c.args.trie.now (words_in c.args.trie.now c.args.words.now) c.args.entry c.args.place c.args.hit closure.few c.requires.hit
 
-pub example-requires-clause-walk : goal.example-requires-clause-walk
-example-requires-clause-walk c =
+pub example-requires : goal.example-requires
+example-requires c =
     let closure : IsClosure (numbering_of c.args.trie.now c.args.words.now) c.args.table.now = subst (λ (v : NumberingView). IsClosure v c.args.table.now) c.requires.numbering c.requires.closure in
     row_walk c.args.trie.now (words_in c.args.trie.now c.args.words.now) c.args.table.now c.args.entry c.args.place c.args.hit c.finish_at-finish.result closure.are_entries closure.few closure.settled c.requires.hit c.finish_at-finish.ensures
 
