@@ -28,6 +28,8 @@ impl StepGraph for Three {
 
     ghost owns = { λ _ c. c < 12 };
 
+    ghost has_rank = { λ _ _ rank. rank ≡ 0 };
+
     fn count(&self) -> u32 {
         3
     }
@@ -48,6 +50,10 @@ impl StepGraph for Three {
         };
         *cursor += 1;
         Some(target)
+    }
+
+    fn rank(&self, _state: u32) -> u32 {
+        0
     }
 }
 

@@ -196,6 +196,8 @@ impl<'a> StepGraph for FreeGraph<'a> {
 
     ghost owns = { λ g c. OwnsTargets g c };
 
+    ghost has_rank = { λ _ _ rank. rank ≡ 0 };
+
     fn count(&self) -> u32 {
         self.end() + 1
     }
@@ -221,5 +223,10 @@ impl<'a> StepGraph for FreeGraph<'a> {
         }
         self.refill(cursor);
         cursor.waiting.take()
+    }
+
+    /// The numbers of forks lie by their longer open word, whose children are the targets, so their own order will do.
+    fn rank(&self, _state: u32) -> u32 {
+        0
     }
 }

@@ -8,7 +8,8 @@ pub const MAX_NUMBERS: u32 = 33_554_432;
 /// A graph of the numbers below a count, each with a list of fewer than 2^32 targets. No call takes memory.
 ///
 /// For contracts a graph is plain data, its start `origin` and the lists of targets `lists`. A cursor is a place in the list of
-/// one number: `left` are the targets that it hasn't given yet, and `owns` says whose cursor it is.
+/// one number: `left` are the targets that it hasn't given yet, and `owns` says whose cursor it is. `has_rank` says which
+/// ranks a number may have.
 pub trait StepGraph {
     /// A place in the list of a number's targets.
     type Cursor: Drop;
@@ -22,6 +23,8 @@ pub trait StepGraph {
     ghost left: { Self → Self.Cursor → List ℕ };
 
     ghost owns: { Self → Self.Cursor → Type 0 };
+
+    ghost has_rank: { Self → ℕ → ℕ → Type 0 };
 
     /// How many numbers there are: 1 to [`MAX_NUMBERS`].
     fn count(&self) -> u32
@@ -51,4 +54,11 @@ pub trait StepGraph {
             ((left self.now cursor.old ≡ []) × (left self.now cursor.new ≡ []))
             (λ t. left self.now cursor.old ≡ t ∷ left self.now cursor.new) }
         ensures below { MatchOption result (Unit {0}) (λ t. t < length (lists self.now)) };
+
+    /// The rank of a number below the count. A search that may make the moves of a round in any order works the numbers
+    /// of one rank beside each other. So a graph gives one rank to numbers whose targets lie close together in memory.
+    /// What is found depends on no rank.
+    fn rank(&self, state: u32) -> u32
+        requires { state < length (lists self.now) }
+        ensures { has_rank self.now state result };
 }

@@ -23,6 +23,8 @@ impl StepGraph for Three {
 
     ghost owns = { λ _ c. c < 12 };
 
+    ghost has_rank = { λ _ _ rank. rank ≡ 0 };
+
     fn count(&self) -> u32 {
         3
     }
@@ -43,6 +45,10 @@ impl StepGraph for Three {
         };
         *cursor += 1;
         Some(target)
+    }
+
+    fn rank(&self, _state: u32) -> u32 {
+        0
     }
 }
 
@@ -94,6 +100,8 @@ impl StepGraph for Regular {
 
     ghost owns = { λ g c. (c.state < g.count) × (c.place ≤ g.degree) };
 
+    ghost has_rank = { λ _ _ rank. rank ≡ 0 };
+
     fn count(&self) -> u32 {
         self.count
     }
@@ -115,6 +123,10 @@ impl StepGraph for Regular {
         let target = (from + turned + u64::from(self.shift)) % u64::from(self.count);
         cursor.place += 1;
         Some(target as u32)
+    }
+
+    fn rank(&self, _state: u32) -> u32 {
+        0
     }
 }
 

@@ -24,7 +24,7 @@ use Rattle.state_numbering.specs.declared.offset.Lengths.{Lengths}
 use Rattle.state_numbering.specs.inside.Offsets.{HasOffset, IsMarked}
 use Rattle.state_numbering.specs.inside.Parts.{IsInPart, IsNodePart}
 use Rattle.state_numbering.specs.Numberings.{NumberingView}
-use Rattle.state_numbering.specs.ByNumber.{IsStateOf}
+use Rattle.state_numbering.specs.ByNumber.{IsOpenWordOf, IsStateOf}
 use Rattle.state_numbering.proofs.NumberLemmas.{number_at}
 
 -- ---- ends of a node
@@ -169,6 +169,24 @@ pub not_open : (entries words : List (List ℕ)) (number node word : ℕ) (l : L
 not_open entries words number node word l are is short found shut = no_state entries words number (candidate entries node l) are is (λ s.
     let at = entry_number-Some (nodes entries) (end_of (node_strokes entries node) l.word) word (sym (found ∙ suffix_at entries node l.word short)) in
     true≢false (sym s.word ∙ ap (is_open words) (sym at.1) ∙ shut))
+
+-- The open word of a number's state is the candidate's,
+pub word_found : (v : NumberingView) (number node word : ℕ) (l : Lengths) → AreWords v.entries v.words →
+    IsCandidate v.entries number (candidate v.entries node l) → l.word ≤ length (node_strokes v.entries node) →
+    Some word ≡ suffix_of v.entries node l.word → IsOpenWordOf v number word
+word_found seen number node word l are is short found s e =
+    let entries : List (List ℕ) = seen.entries in
+    let at = state_of_number-is entries seen.words number s e in
+    let same : s ≡ candidate entries node l = shaped-same entries s (candidate entries node l) (shape_of_state entries seen.words s are at.0) is.shaped (at.1 ∙ sym is.number_is) in
+    let there = entry_number-Some (nodes entries) (end_of (node_strokes entries node) l.word) word (sym (found ∙ suffix_at entries node l.word short)) in
+    (there.0, there.1 ∙ ap (λ (t : states.State). t.v) (sym same))
+
+-- and where that is no node, no state has the number.
+pub no_word_found : (v : NumberingView) (number node word : ℕ) (l : Lengths) → AreWords v.entries v.words →
+    IsCandidate v.entries number (candidate v.entries node l) → l.word ≤ length (node_strokes v.entries node) →
+    None ≡ suffix_of v.entries node l.word → IsOpenWordOf v number word
+no_word_found v number node word l are is short none s e =
+    absurd (let never : None ≡ Some s = sym (no_word v.entries v.words number node l are is short none) ∙ e in cc never)
 
 -- In all other cases the candidate is the state.
 pub decoded : (v : NumberingView) (number node : ℕ) (l : Lengths) (s : State) → AreWords v.entries v.words →

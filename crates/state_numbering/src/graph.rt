@@ -31,6 +31,7 @@ impl<'a> ClosureGraph<'a> {
 
 impl<'a> StepGraph for ClosureGraph<'a> {
     ghost use Rattle.steno_rules.specs.ClosureGraphs.{kept_lists};
+    ghost use Rattle.state_numbering.specs.ByNumber.{IsOpenWordOf};
     ghost use Rattle.state_numbering.specs.Cursors.{numbers_left, OwnsMoves};
 
     type Cursor = Option<Moves<'a>>;
@@ -42,6 +43,8 @@ impl<'a> StepGraph for ClosureGraph<'a> {
     ghost left = { λ g c. numbers_left g c };
 
     ghost owns = { λ g c. OwnsMoves g c };
+
+    ghost has_rank = { λ g n rank. IsOpenWordOf g n rank };
 
     fn count(&self) -> u32 {
         self.numbering.count()
@@ -63,5 +66,10 @@ impl<'a> StepGraph for ClosureGraph<'a> {
             },
             None => None,
         }
+    }
+
+    /// The states with one open word lead to the same children of its node, and mostly to the same numbers.
+    fn rank(&self, state: u32) -> u32 {
+        self.numbering.open_word(state)
     }
 }

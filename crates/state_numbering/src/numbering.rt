@@ -7,7 +7,7 @@ ghost use Rattle.steno_rules.specs.StateNumbers.{longer, number_count, state_num
 ghost use Rattle.steno_rules.specs.WordSets.{IsWordSet};
 ghost use Rattle.outline_trie.specs.Tries.{IsNode, node_strokes, suffix_of};
 ghost use Rattle.closure_state.specs.NodeStates.{IsNodeState, state_at};
-ghost use Rattle.state_numbering.specs.ByNumber.{HasNoHit, HasNoStroke, IsHitOf, IsStateOf, IsStrokeInto};
+ghost use Rattle.state_numbering.specs.ByNumber.{HasNoHit, HasNoStroke, IsHitOf, IsOpenWordOf, IsStateOf, IsStrokeInto};
 ghost use Rattle.state_numbering.specs.Causes.{IsNumberCause, most_states};
 ghost use Rattle.state_numbering.specs.Cursors.{OwnsMoves, numbers_left};
 ghost use Rattle.state_numbering.specs.Following.{followed};
@@ -140,6 +140,20 @@ impl<'a> Numbering<'a> {
             self.windows.alone(node)
         } else {
             self.trie.suffix(node, len)
+        }
+    }
+
+    /// The node of the open word of the state of a number, and any number where none has it. It costs less than the state.
+    pub(crate) fn open_word(&self, number: u32) -> u32
+        requires { number < number_count self.now.entries }
+        ensures { IsOpenWordOf self.now number result }
+    {
+        let node = self.parts.node_of(number);
+        let part = self.parts.part(node);
+        let lengths = lengths_at(part.depth, number - part.start);
+        match self.end_of(node, part.depth, lengths.word) {
+            Some(word) => word,
+            None => 0,
         }
     }
 

@@ -11,6 +11,7 @@ pub mod Returns
 pub mod Turns
 pub mod Worked
 pub mod Makes
+pub mod Orders
 pub mod Rises
 pub mod Rounds
 pub mod Steps

@@ -24,6 +24,8 @@ impl StepGraph for Three {
 
     ghost owns = { λ _ c. c < 12 };
 
+    ghost has_rank = { λ _ _ rank. rank ≡ 0 };
+
     fn count(&self) -> u32 {
         3
     }
@@ -45,6 +47,10 @@ impl StepGraph for Three {
         *cursor += 1;
         Some(target)
     }
+
+    fn rank(&self, _state: u32) -> u32 {
+        0
+    }
 }
 
 /// So many numbers with four targets each. Of 3,000 the frontiers have 1, 3, 12, 47, 180, 566, 1127, 884 and 180
@@ -63,7 +69,7 @@ pub struct MixedPlace {
 }
 
 impl StepGraph for Mixed {
-    ghost use Rattle.std.specs.Prelude.{◌<◌, drop};
+    ghost use Rattle.std.specs.Prelude.{◌<◌, ◌%◌, drop};
     ghost use Rattle.steal_rounds.specs.inside.Samples.{mixed_targets, mixed_lists};
 
     type Cursor = MixedPlace;
@@ -75,6 +81,8 @@ impl StepGraph for Mixed {
     ghost left = { λ g c. drop c.place (mixed_targets g.count c.state) };
 
     ghost owns = { λ g c. (c.state < g.count) × (c.place ≤ 4) };
+
+    ghost has_rank = { λ _ s rank. rank ≡ s % 7 };
 
     fn count(&self) -> u32 {
         self.count
@@ -99,5 +107,9 @@ impl StepGraph for Mixed {
         };
         cursor.place += 1;
         Some(target)
+    }
+
+    fn rank(&self, state: u32) -> u32 {
+        state % 7
     }
 }

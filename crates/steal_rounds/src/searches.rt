@@ -9,6 +9,7 @@ ghost use Rattle.steal_rounds.specs.MadeMoves.{HasGraph, HasMoves};
 ghost use Rattle.steal_rounds.specs.declared.searches.TheConstants.{MAX_WORKERS};
 
 use crate::gate::Gate;
+use crate::order::in_order;
 use crate::round::{rise, work_round};
 use dist_table::{DistTable, Pass};
 use round_core::{Settled, StepGraph};
@@ -28,7 +29,8 @@ pub struct Searched {
 }
 
 /// Searches a graph on the caller's table, with 1 to [`MAX_WORKERS`] workers, of which the calling thread is one. The pass has seen
-/// nothing before. Afterwards its history has each move of each reached number, with the number's least distance.
+/// nothing before. Afterwards its history has each move of each reached number, with the number's least distance. Each
+/// round asks the rank of each of its numbers once and sorts the numbers by it.
 ///
 /// `AllocError` where memory was refused; the workers' passes are joined all the same, so the history is legal. The
 /// call may wait for its workers, for a steal that lost against another, and for the gate.
@@ -60,6 +62,7 @@ where
     let mut rounds = 0;
     let mut relaxed: u64 = 0;
     'search: while frontier.len() > 0 {
+        let order = in_order(alloc, graph, frontier.as_slice())?;
         let (mut notes, moves) = work_round(
             rt,
             alloc,
@@ -68,7 +71,7 @@ where
             gate,
             pass,
             workers,
-            frontier.as_slice(),
+            order.as_slice(),
             rounds,
         )?;
         let Some(sum) = relaxed.checked_add(moves) else {
