@@ -1,5 +1,5 @@
 -- The number of a state by the part of its longer list.
-use Rattle.std.proofs.Common.{◌≡◌, ℕ, ◌+◌, ◌<◌, ◌≤◌, List, [], length, sym, ap, ◌∙◌, arith, ◌⊎◌, inl, inr, Contains}
+use Rattle.std.proofs.Common.{◌≡◌, ℕ, ◌+◌, ◌<◌, ◌≤◌, List, [], length, refl, sym, ap, subst, ◌∙◌, arith, ◌⊎◌, inl, inr, Contains}
 use Rattle.std.proofs.lemmas.List.{get_or_default}
 use Rattle.steno_rules.specs.Outlines.{AreWords}
 use Rattle.steno_rules.specs.Nodes.{nodes}
@@ -8,6 +8,7 @@ use Rattle.steno_rules.specs.States as states
 use Rattle.steno_rules.proofs.NodeLemmas.{nodes-rising}
 use Rattle.steno_rules.proofs.Numbers.{outline_of-once}
 use Rattle.closure_laws.proofs.StateNumberLemmas.{place_inside, place_there, longer_cases, shape_of_state, shaped-below}
+use Rattle.outline_trie.proofs.LookLemmas.{root_is}
 use Rattle.outline_trie.specs.Tries.{IsNode, node_strokes}
 use Rattle.closure_state.specs.declared.state.State.{State}
 use Rattle.closure_state.specs.NodeStates.{state_at, IsNodeState}
@@ -42,6 +43,11 @@ number_is entries words s window word long offset is u v by offset_is =
           let from : long.start ≡ part_start (nodes entries) s.word = ap (λ (p : Part). p.start) h.1 ∙ v.start in
           ap (λ k. k + offset) from ∙ ap (λ k. part_start (nodes entries) s.word + k) inner ∙ sym (number_at entries (state_at entries s) s.word whole is.word)
     ]
+
+-- The root's part begins with the first number, and the root has no strokes.
+pub root_part : (entries : List (List ℕ)) (node : ℕ) → node ≡ 0 → IsNodePart entries node (record { start = 0; depth = 0 })
+root_part entries node is =
+    subst (λ n. IsNodePart entries n (record { start = 0; depth = 0 })) (sym is) (record { start = refl; depth = sym (ap length (root_is entries)); short = omega arith })
 
 -- Each number of a state is below the count.
 pub number_below : (entries words : List (List ℕ)) (s : State) → AreWords entries words → IsNodeState entries words s →

@@ -80,7 +80,7 @@ impl<'a> Numbering<'a> {
         self.parts.count()
     }
 
-    /// The number of a state, found without a look-up.
+    /// The number of a state, found without a look-up. Between words the part of the window alone is read.
     pub fn number(&self, state: State) -> u32
         requires { IsNodeState self.now.entries self.now.words state }
         ensures number { result
@@ -88,6 +88,14 @@ impl<'a> Numbering<'a> {
         ensures below { result < number_count self.now.entries }
     {
         let window = self.parts.part(state.window);
+        if state.word == 0 {
+            return window.start
+                + offset_of(Lengths {
+                    window: window.depth,
+                    word: 0,
+                    mark: state.mark,
+                });
+        }
         let word = self.parts.part(state.word);
         let longer = if word.depth <= window.depth {
             window
