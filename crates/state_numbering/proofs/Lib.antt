@@ -6,3 +6,4 @@ pub mod StrokeLemmas
 pub mod FewTargets
 pub mod GraphRows
 pub mod FollowLemmas
+pub mod HitLemmas

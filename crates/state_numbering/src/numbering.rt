@@ -1,5 +1,5 @@
 //! From states to numbers and back.
-ghost use Rattle.std.specs.Prelude.{◌≡◌, ◌<◌, ◌≤◌, ◌^◌, IfErr, IfOk, MatchOption, None, length};
+ghost use Rattle.std.specs.Prelude.{◌≡◌, ◌<◌, ◌≤◌, ◌^◌, IfErr, IfOk, MatchOption, None, false, length};
 ghost use Rattle.steno_rules.specs.ClosureGraphs.{numbers_by};
 ghost use Rattle.steno_rules.specs.Outlines.{AreWords, entry_number};
 ghost use Rattle.steno_rules.specs.States.{kept_targets};
@@ -192,10 +192,26 @@ impl<'a> Numbering<'a> {
         }
     }
 
-    /// The hit that the state of a number is, None exactly where no state has the number or its state is no hit.
+    /// Whether a number stands for no open word and a mark, as that of a hit does.
+    fn may_hit(&self, number: u32) -> bool
+        ensures { result ≡ false → HasNoHit self.now number }
+    {
+        if number >= self.parts.count() {
+            return false;
+        }
+        let part = self.parts.part(self.parts.node_of(number));
+        let lengths = lengths_at(part.depth, number - part.start);
+        lengths.word == 0 && lengths.mark.is_some()
+    }
+
+    /// The hit that the state of a number is, None exactly where no state has the number or its state is no hit. No stroke is
+    /// looked up.
     pub fn hit_of(&self, number: u32) -> Option<Hit>
         ensures { MatchOption result (HasNoHit self.now number) (IsHitOf self.now number) }
     {
+        if !self.may_hit(number) {
+            return None;
+        }
         let state = self.state(number)?;
         hit(self.trie, self.windows, &state)
     }

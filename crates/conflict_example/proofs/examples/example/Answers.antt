@@ -1,6 +1,4 @@
 use Rattle.closure_laws.specs.Examples.{trail}
-use Rattle.std.proofs.Common.{sym, subst}
-use Rattle.conflict_example.specs.inside.Spellings.{IsSpelling}
 use Rattle.conflict_example.proofs.Spellings.{spelt_more, spelt_none}
 use Rattle.conflict_example.proofs.examples.example.Goals as goal
 

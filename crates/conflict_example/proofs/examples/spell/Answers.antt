@@ -1,4 +1,4 @@
-use Rattle.std.proofs.Common.{◌≡◌, true, false, sym, ◌∙◌, length, nat_eq}
+use Rattle.std.proofs.Common.{sym, ◌∙◌}
 use Rattle.conflict_example.specs.inside.Spellings.{numbered_state}
 use Rattle.conflict_example.proofs.Spellings.{ended, goes_on}
 use Rattle.conflict_example.proofs.examples.spell.Goals as goal
