@@ -38,7 +38,7 @@ second_fails true b e = e
 second_fails false b e = refl
 
 -- the bits from `next` on
-shifted : (keys next i : ℕ) → bit_at (keys / 2 ^ next) i ≡ bit_at keys (next + i)
+pub shifted : (keys next i : ℕ) → bit_at (keys / 2 ^ next) i ≡ bit_at keys (next + i)
 shifted keys next i = ap (λ n. n % 2) (div-div-eq-div-mul keys (2 ^ next) (2 ^ i) ∙ ap (λ n. keys / n) (sym (pow-add 2 next i)))
 
 no_bit : (c keys key : ℕ) → KeysOf c keys → key < 23 → bit_at keys key ≡ 0 → is_written c key ≡ false

@@ -1,6 +1,6 @@
 //! Writing: the one text that each stroke has.
 
-ghost use Rattle.std.specs.Prelude.{◌≡◌, ◌+◌, ◌-◌, ◌++◌, ◌*◌, ◌<◌, ◌≤◌, ◌^◌, ◌∷◌, [], if◌then◌else◌, IsOk, OnErr, OnOk, length, map, string_bytes, string_capacity, string_len};
+ghost use Rattle.std.specs.Prelude.{◌≡◌, ◌+◌, ◌-◌, ◌++◌, ◌*◌, ◌<◌, ◌≤◌, ◌^◌, ◌∷◌, [], if◌then◌else◌, IfSome, IsOk, MatchOption, OnErr, OnOk, length, map, string_bytes, string_capacity, string_len};
 ghost use Rattle.steno_order.specs.Canonical.{canonical, canonical_text, keys_from, mark, needs_bar, needs_hyphen};
 ghost use Rattle.steno_order.specs.inside.Steps.{has_one, others_text};
 
@@ -79,6 +79,24 @@ fn append(stroke: Stroke, text: &mut String) -> Result<(), AllocError>
     append_keys(stroke, 13, 23, text)
 }
 
+/// The first pressed key from one on and before `end`.
+fn pressed_from(stroke: Stroke, key: u8, end: u8) -> Option<u8>
+    requires order { key ≤ end }
+    requires keys { end ≤ 23 }
+    ensures pressed { MatchOption result
+        (keys_from stroke key (end - key) ≡ [])
+        (λ pressed. keys_from stroke key (end - key)
+        ≡ pressed ∷ keys_from stroke (pressed + 1) (end - (pressed + 1))) }
+    ensures inside { IfSome result (λ pressed. (key ≤ pressed) × (pressed < end)) }
+{
+    let rest = stroke.code() >> key;
+    if rest == 0 {
+        return None;
+    }
+    let pressed = key + rest.trailing_zeros() as u8;
+    if pressed < end { Some(pressed) } else { None }
+}
+
 /// Appends the characters of the pressed keys from `first` to before `end`, for which there is room.
 fn append_keys(stroke: Stroke, first: u8, end: u8, text: &mut String) -> Result<(), AllocError>
     requires order { first ≤ end }
@@ -90,8 +108,10 @@ fn append_keys(stroke: Stroke, first: u8, end: u8, text: &mut String) -> Result<
     ensures len { string_len text.new ≤ string_len text.old + (end - first) }
     ensures capacity { string_capacity text.old ≤ string_capacity text.new }
 {
-    for key in first..end {
-        push_if(stroke.has(key), mark_of(stroke, key), text)?;
+    let mut key = first;
+    while let Some(pressed) = pressed_from(stroke, key, end) {
+        push_if(true, mark_of(stroke, pressed), text)?;
+        key = pressed + 1;
     }
     Ok(())
 }
