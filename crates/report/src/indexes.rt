@@ -96,28 +96,44 @@ fn shorter_of(alloc: Global, outlines: &[Outline]) -> Result<Vec<Option<u32>>, A
     Ok(shorter)
 }
 
-/// The last entry that isn't behind the strokes, in a binary search.
-fn nearest(outlines: &[Outline], strokes: &[Stroke]) -> Option<u32>
+/// The last entry that isn't behind the strokes: the one that is guessed, where they are its outline, and else by a binary
+/// search.
+fn nearest(outlines: &[Outline], guess: u32, strokes: &[Stroke]) -> Option<u32>
     requires entries { AreEntries outlines.now }
     requires few { length outlines.now ≤ most_entries }
+    requires guess { guess < length outlines.now }
     ensures begun { IsBegunFrom outlines.now (length outlines.now) strokes.now result }
     ensures inside { IfSome result (λ e. e < length outlines.now) }
 {
+    if outlines[guess as usize].strokes() == strokes {
+        return Some(guess);
+    }
     match outlines.binary_search_by(|outline| outline.strokes().cmp(strokes)) {
         Ok(entry) => Some(entry as u32),
         Err(place) => place_before(place),
     }
 }
 
-/// The first piece of strokes.
-fn first_piece(outlines: &[Outline], shorter: &[Option<u32>], strokes: &[Stroke]) -> Piece
+/// The first piece of strokes, perhaps the entry that is guessed.
+fn first_piece(
+    outlines: &[Outline],
+    shorter: &[Option<u32>],
+    guess: u32,
+    strokes: &[Stroke],
+) -> Piece
     requires entries { AreEntries outlines.now }
     requires few { length outlines.now ≤ most_entries }
     requires shorter { AreShorter outlines.now (length outlines.now) shorter.now }
+    requires guess { guess < length outlines.now }
     requires some { strokes.now ≢ [] }
     ensures { result ≡ piece_of outlines.now (first_piece_of outlines.now strokes.now) }
 {
-    match along(outlines, shorter, nearest(outlines, strokes), strokes) {
+    match along(
+        outlines,
+        shorter,
+        nearest(outlines, guess, strokes),
+        strokes,
+    ) {
         Some(entry) => Piece {
             len: outlines[entry as usize].strokes().len() as u32,
             entry: Some(entry),
@@ -183,18 +199,21 @@ impl<'a> Index<'a> {
         text
     }
 
-    /// The pieces of strokes by leftmost longest match. A piece costs one binary search among the entries.
+    /// The pieces of strokes by leftmost longest match. A piece costs one binary search among the entries, but for a last one
+    /// that is the entry that is guessed.
     pub(crate) fn segment(
         &self,
+        guess: u32,
         strokes: &[Stroke],
         pieces: &mut Vec<Piece>,
     ) -> Result<(), AllocError>
+        requires { guess < length self.now.outlines }
         ensures { OnOk result (pieces.new.items ≡ pieces_of self.now.outlines strokes.now) }
     {
         pieces.clear();
         let mut rest = strokes;
         while !rest.is_empty() {
-            let piece = first_piece(self.stack.outlines(), &self.shorter, rest);
+            let piece = first_piece(self.stack.outlines(), &self.shorter, guess, rest);
             let (_, others) = rest.split_at(piece.len as usize);
             pieces.push(piece)?;
             rest = others;

@@ -137,23 +137,25 @@ fn join(index: &Index<'_>, words: &[u32], strokes: &mut Vec<Stroke>) -> Result<(
     Ok(())
 }
 
-/// Adds what comes out where words are written, with bars between the pieces.
+/// Adds what comes out where the words of a row are written, with bars between the pieces. In most rows that is the row's
+/// entry alone, so it is guessed.
 fn push_shown(
     page: &mut Vec<u8>,
     index: &Index<'_>,
-    words: &[u32],
+    row: &Conflict,
     scratch: &mut Scratch,
 ) -> Result<(), AllocError>
-    requires { AreEntryNumbers index.now.outlines words.now }
-    ensures { OnOk result (page.new.items ≡ page.old.items ++ shown_text index.now words.now) }
+    requires { IsSmall index.now.outlines row.now }
+    ensures { let added = shown_text index.now row.now.words in
+        OnOk result (page.new.items ≡ page.old.items ++ added) }
 {
     let Scratch {
         strokes,
         pieces,
         text,
     } = scratch;
-    join(index, words, strokes)?;
-    index.segment(strokes, pieces)?;
+    join(index, row.words(), strokes)?;
+    index.segment(row.entry(), strokes, pieces)?;
     push_pieces(page, index, strokes, pieces, text)
 }
 
@@ -173,7 +175,7 @@ pub(crate) fn push_row(
     page.extend_from_slice(b"words ")?;
     push_words(page, index, row.words())?;
     page.extend_from_slice(b"\nshows ")?;
-    push_shown(page, index, row.words(), scratch)?;
+    push_shown(page, index, row, scratch)?;
     page.push(b'\n')?;
     Ok(())
 }
