@@ -30,7 +30,7 @@ put_names k d (member l e ms) = by (slice_cmp nat_cmp k l) (put_names k d ms)
     by Equal rest = refl
     by Greater rest = ap (λ ns. l ∷ ns) rest
 
-put_rises : (k : List ℕ) (d : Data) (ms : Members) → Rises Before (names_of ms) → Rises Before (names_of (put k d ms))
+pub put_rises : (k : List ℕ) (d : Data) (ms : Members) → Rises Before (names_of ms) → Rises Before (names_of (put k d ms))
 put_rises k d ms h = subst (Rises Before) (sym (put_names k d ms)) (insert_rises outline_cmp nat_list_cmp_total (names_of ms) k h)
 
 -- ---- what is read

@@ -1,2 +1,3 @@
 -- What only private functions, invariants and proofs cite.
 pub mod Walks
+pub mod Texts

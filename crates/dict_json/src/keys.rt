@@ -1,6 +1,6 @@
 //! The keys of a file, collected one by one in order of their bytes.
 
-ghost use Rattle.std.specs.Prelude.{◌≡◌, ◌<◌, ◌≤◌, ◌∷◌, ◌++◌, ◌^◌, [], List, length, string_bytes, IfOk, OnOk, Some};
+ghost use Rattle.std.specs.Prelude.{◌≡◌, ◌<◌, ◌≤◌, ◌∷◌, ◌++◌, ◌^◌, [], List, length, IfOk, OnOk, Some};
 ghost use Rattle.std.specs.Option.{option_or};
 ghost use Rattle.dict_json.specs.Reading.{Keyed};
 ghost use Rattle.dict_json.specs.inside.Walks.{AddsKey, walked, with_entry, with_skipped, with_too_long};
@@ -43,44 +43,42 @@ impl Keys {
         })
     }
 
-    /// Adds a key with its text, both of which are moved.
-    pub(crate) fn add(&mut self, alloc: Global, key: String, text: String) -> Result<(), AllocError>
-        requires { length (string_bytes key) < 2 ^ 32 }
-        ensures { OnOk result (AddsKey self.old (string_bytes key) (string_bytes text) self.new) }
+    /// Adds a key with its text, which is moved. The key is copied where it is skipped or too long.
+    pub(crate) fn add(&mut self, alloc: Global, key: &str, text: Text) -> Result<(), AllocError>
+        requires { length key.now < 2 ^ 32 }
+        ensures { OnOk result (AddsKey self.old key.now text self.new) }
     {
-        match read_outline(alloc, key.as_str()) {
+        match read_outline(alloc, key) {
             Ok(outline) => self.add_entry(outline, text),
-            Err(OutlineFault::Unreadable { .. }) => self.add_skipped(key),
-            Err(OutlineFault::TooLong { parts }) => {
-                self.add_too_long(key, parts);
-                Ok(())
-            }
+            Err(OutlineFault::Unreadable { .. }) => self.add_skipped(alloc, key),
+            Err(OutlineFault::TooLong { parts }) => self.add_too_long(alloc, key, parts),
             Err(OutlineFault::Memory) => Err(AllocError),
         }
     }
 
     /// Adds the entry of a readable key.
-    fn add_entry(&mut self, outline: Outline, text: String) -> Result<(), AllocError>
-        ensures { OnOk result (self.new ≡ with_entry self.old outline (string_bytes text)) }
+    fn add_entry(&mut self, outline: Outline, text: Text) -> Result<(), AllocError>
+        ensures { OnOk result (self.new ≡ with_entry self.old outline text) }
     {
-        self.entries.push(DictEntry::new(outline, Text::new(text)))?;
+        self.entries.push(DictEntry::new(outline, text))?;
         Ok(())
     }
 
     /// Adds a key that has an unreadable part.
-    fn add_skipped(&mut self, key: String) -> Result<(), AllocError>
-        ensures { OnOk result (self.new ≡ with_skipped self.old (string_bytes key)) }
+    fn add_skipped(&mut self, alloc: Global, key: &str) -> Result<(), AllocError>
+        ensures { OnOk result (self.new ≡ with_skipped self.old key.now) }
     {
-        self.skipped.push(Text::new(key))?;
+        self.skipped.push(Text::copy_of(alloc, key)?)?;
         Ok(())
     }
 
     /// Notes a key that is too long, if it is the first.
-    fn add_too_long(&mut self, key: String, parts: u64)
-        ensures { self.new ≡ with_too_long self.old (string_bytes key) parts }
+    fn add_too_long(&mut self, alloc: Global, key: &str, parts: u64) -> Result<(), AllocError>
+        ensures { OnOk result (self.new ≡ with_too_long self.old key.now parts) }
     {
         if self.too_long.is_none() {
-            self.too_long = Some((Text::new(key), parts));
+            self.too_long = Some((Text::copy_of(alloc, key)?, parts));
         }
+        Ok(())
     }
 }

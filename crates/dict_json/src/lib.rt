@@ -10,6 +10,7 @@ mod faults;
 mod generator;
 mod keys;
 pub mod laws;
+mod members;
 mod order;
 mod reading;
 #[cfg(test)]

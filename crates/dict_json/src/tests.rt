@@ -10,7 +10,7 @@ use std::test::Fail;
 use steno_order::write_outline;
 
 /// Files with what they come to: each entry, each skipped key and the number of folded keys, or the refusal.
-const FILES: [(&[u8], &str); 24] = [
+const FILES: [(&[u8], &str); 33] = [
     (b"{}", "folded 0"),
     (b" {\"KAT\" : \"cat\"}\n", "KAT=cat folded 0"),
     (
@@ -30,6 +30,33 @@ const FILES: [(&[u8], &str); 24] = [
         b"{\"T/S\": \"1\", \"S/T\": \"2\", \"S\": \"3\", \"T\": \"4\", \"S/S\": \"5\"}",
         "S=3 S/S=5 S/T=2 T=4 T/S=1 folded 0",
     ),
+    (
+        b"{\"T\": \"1\", \"S\": \"2\", \"T\": \"3\", \"S\": \"4\", \"T\": \"5\", \"-S\": \"6\"}",
+        "S=4 T=5 -S=6 folded 0",
+    ),
+    (
+        b"{\"S-S\": \"1\", \"-\": \"2\", \"STS\": \"3\", \"S-S\": \"4\", \"\": \"5\", \"-\": \"6\", \"ST-S\": \"7\"}",
+        "S-S=4 ST-S=3 skipped [] [-] folded 1",
+    ),
+    (
+        b"{\"\\u0053\\/T\": \"1\", \"S/T\": \"caf\\u00e9\\n\"}",
+        "S/T=caf\u{e9}\n folded 0",
+    ),
+    (
+        b"{\"S\": \"a\", \"\\u00e9\": \"\\ud83d\\ude00\", \"\\u0053\": \"b\"}",
+        "S=b skipped [\u{e9}] folded 0",
+    ),
+    (b"{\"S\": 1, \"S\": \"a\"}", "S=a folded 0"),
+    (
+        b"{\"S\": \"a\", \"T\": \"b\", \"S\": false}",
+        "the value of S is no text",
+    ),
+    (
+        b"{\"T\": \"a\", \"S\": {\"-R\": \"b\", \"-P\": [\"c\", {}]}, \"-R\": \"d\"}",
+        "the value of S is no text",
+    ),
+    (b"{\"KAT\": \"cat\"}{}", "this is no JSON"),
+    (b"{\"KAT\": \"cat\", \"TEL\"}", "this is no JSON"),
     (b"{\"KAT\": 1}", "the value of KAT is no text"),
     (b"{\"KAT\": null}", "the value of KAT is no text"),
     (b"{\"KAT\": [\"cat\"]}", "the value of KAT is no text"),

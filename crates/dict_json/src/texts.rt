@@ -1,7 +1,8 @@
 //! Keys and translations, which contracts see as their bytes.
 
-ghost use Rattle.std.specs.Prelude.{◌≡◌, string_bytes};
+ghost use Rattle.std.specs.Prelude.{◌≡◌, IfOk, string_bytes};
 
+use std::alloc::{AllocError, Global};
 use std::fmt;
 use std::marker::Model;
 
@@ -25,6 +26,15 @@ impl Text {
         ensures { result ≡ string_bytes inner }
     {
         Text { inner }
+    }
+
+    /// The text of a string, which is copied.
+    pub(crate) fn copy_of(alloc: Global, text: &str) -> Result<Text, AllocError>
+        ensures { IfOk result (λ copy. copy ≡ text.now) }
+    {
+        Ok(Text {
+            inner: String::from_str(alloc, text)?,
+        })
     }
 
     /// The text.

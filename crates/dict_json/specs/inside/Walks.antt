@@ -1,10 +1,12 @@
 -- What a walk over keys with their texts has collected.
 --     walked pairs                     what it has collected after these
 --     AddsKey old key text new         what one more key with its text makes of what was collected
-use Rattle.std.specs.Prelude.{ℕ, ◌≡◌, List, [], ◌∷◌, ◌++◌, not, filter, find, length, Option, Some, option_map}
+--     AreKeysOf bytes keys             the bytes are an object of texts, and these are its keys
+use Rattle.std.specs.Prelude.{ℕ, ◌≡◌, List, [], ◌∷◌, ◌++◌, not, filter, filter_map, find, is_none, length, Option, None, Some, option_map}
 use Rattle.std.specs.Option.{option_or}
 use Rattle.steno_order.specs.Spelling.{parts_of}
-use Rattle.dict_json.specs.Reading.{Keyed}
+use Rattle.serde_json.specs.Data.{Members, object}
+use Rattle.dict_json.specs.Reading.{Keyed, keyed, members_of, reading}
 use Rattle.dict_json.specs.Dictionaries.{Entry, spelt, skipped_of}
 use Rattle.dict_json.specs.Outcomes.{is_too_long}
 
@@ -37,3 +39,10 @@ walked pairs = record {
 -- whatever keys were walked over, this is one more
 abbrev pub AddsKey : KeysView → List ℕ → List ℕ → KeysView → Type 0
 AddsKey old key text new = (pairs : List Keyed) → old ≡ walked pairs → new ≡ walked (pairs ++ record { key = key; text = text } ∷ [])
+
+-- the bytes are an object whose values are all texts, and its keys were collected
+pub record AreKeysOf (bytes : List ℕ) (keys : KeysView) : Type 0 where
+  pub members : Members
+  pub read : reading bytes ≡ Some (object members)
+  pub texts : find (λ m. is_none (keyed m)) (members_of members) ≡ None
+  pub collected : keys ≡ walked (filter_map keyed (members_of members))
