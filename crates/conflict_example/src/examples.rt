@@ -124,8 +124,8 @@ fn push_word(
     }
 }
 
-/// Goes on to a number's state: its stroke is added to the open word, which ends where no word is open any more. The answer
-/// is the node of the word that is open then, if its strokes are one.
+/// Goes on to a number's state: its stroke is added to the open word, which ends where no word is open any more. The
+/// answer is the node of the word that is open then, if its strokes are one.
 fn spell(
     numbering: &Numbering<'_>,
     node: Option<u32>,
@@ -151,8 +151,8 @@ fn spell(
     }
 }
 
-/// The words of the walk of so many moves to a number, by their entries' numbers. The node of the open word is kept from
-/// state to state, so a stroke costs one look-up among the children of a node and a word none.
+/// The words of the walk of so many moves to a number, by their entries' numbers. The node of the open word is kept
+/// from state to state, so a stroke costs one look-up among the children of a node and a word none.
 pub fn example(
     alloc: Global,
     numbering: &Numbering<'_>,

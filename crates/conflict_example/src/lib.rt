@@ -5,8 +5,8 @@
 //! nearest, and of these the one of least number; the walk to it, back by the words, spells the words of the pair's example.
 //! [`conflicts_of`] does the same for one entry alone.
 //!
-//! So the time follows the numbers, the pairs and the strokes of the examples, of which each costs one look-up among the
-//! children of a node. A number of a state takes no memory, and a pair eight bytes.
+//! So the time follows the numbers, the pairs and the strokes of the examples, of which each costs one look-up among
+//! the children of a node. A number of a state takes no memory, and a pair eight bytes.
 #![tactic(auto)]
 
 mod examples;

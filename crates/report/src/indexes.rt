@@ -96,8 +96,8 @@ fn shorter_of(alloc: Global, outlines: &[Outline]) -> Result<Vec<Option<u32>>, A
     Ok(shorter)
 }
 
-/// The last entry that isn't behind the strokes: the one that is guessed, where they are its outline, and else by a binary
-/// search.
+/// The last entry that isn't behind the strokes: the one that is guessed, where they are its outline, and else by a
+/// binary search.
 fn nearest(outlines: &[Outline], guess: u32, strokes: &[Stroke]) -> Option<u32>
     requires entries { AreEntries outlines.now }
     requires few { length outlines.now ≤ most_entries }
@@ -199,8 +199,8 @@ impl<'a> Index<'a> {
         text
     }
 
-    /// The pieces of strokes by leftmost longest match. A piece costs one binary search among the entries, but for a last one
-    /// that is the entry that is guessed.
+    /// The pieces of strokes by leftmost longest match. A piece costs one binary search among the entries, but for a
+    /// last one that is the entry that is guessed.
     pub(crate) fn segment(
         &self,
         guess: u32,

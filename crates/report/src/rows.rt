@@ -137,8 +137,8 @@ fn join(index: &Index<'_>, words: &[u32], strokes: &mut Vec<Stroke>) -> Result<(
     Ok(())
 }
 
-/// Adds what comes out where the words of a row are written, with bars between the pieces. In most rows that is the row's
-/// entry alone, so it is guessed.
+/// Adds what comes out where the words of a row are written, with bars between the pieces. In most rows that is the
+/// row's entry alone, so it is guessed.
 fn push_shown(
     page: &mut Vec<u8>,
     index: &Index<'_>,

@@ -161,7 +161,8 @@ fn row_in(alloc: Global, value: &Value) -> Result<JsonRow, JsonFault>
 fn rows_of(alloc: Global, values: &[Value]) -> Result<Vec<JsonRow>, JsonFault>
     ensures ok { IfOk result (λ rows. map view values.now ≡ map row_value rows.items) }
     ensures are { IfOk result (λ rows. All IsJsonRow rows.items) }
-    ensures err { IfErr result (IsPartRefused (All IsJsonRow) (map row_value) (map view values.now)) }
+    ensures err { IfErr result
+        (IsPartRefused (All IsJsonRow) (map row_value) (map view values.now)) }
 {
     let mut rows = Vec::with_capacity(alloc, values.len())?;
     for value in values {

@@ -151,7 +151,8 @@ impl<'a> Numbering<'a> {
         }
     }
 
-    /// The node of the open word of the state of a number, and any number where none has it. It costs less than the state.
+    /// The node of the open word of the state of a number, and any number where none has it. It costs less than the
+    /// state.
     pub(crate) fn open_word(&self, number: u32) -> u32
         requires { number < number_count self.now.entries }
         ensures { IsOpenWordOf self.now number result }
@@ -204,8 +205,8 @@ impl<'a> Numbering<'a> {
         lengths.word == 0 && lengths.mark.is_some()
     }
 
-    /// The hit that the state of a number is, None exactly where no state has the number or its state is no hit. No stroke is
-    /// looked up.
+    /// The hit that the state of a number is, None exactly where no state has the number or its state is no hit. No
+    /// stroke is looked up.
     pub fn hit_of(&self, number: u32) -> Option<Hit>
         ensures { MatchOption result (HasNoHit self.now number) (IsHitOf self.now number) }
     {
@@ -230,9 +231,9 @@ impl<'a> Numbering<'a> {
         }
     }
 
-    /// The node of a node's strokes and the last stroke of a state, None where no entry begins with them. The last stroke of
-    /// a state is that of the longer of its two lists, and where both are empty there is none. At most one look-up, and none
-    /// at the root.
+    /// The node of a node's strokes and the last stroke of a state, None where no entry begins with them. The last
+    /// stroke of a state is that of the longer of its two lists, and where both are empty there is none. At most one
+    /// look-up, and none at the root.
     pub fn follow(&self, node: u32, state: State) -> Option<u32>
         requires node { IsNode self.now.entries node }
         requires state { IsNodeState self.now.entries self.now.words state }

@@ -16,7 +16,7 @@ use Rattle.round_core.specs.Rounds.{Has}
 use Rattle.round_core.specs.inside.InRounds.{moves_of}
 use Rattle.steal_rounds.specs.inside.Crews.{IsRound}
 use Rattle.steal_rounds.specs.inside.Fronts.{IsWorked}
-use Rattle.steal_rounds.specs.inside.Orders.{low_half, high_half, AreKeys, IsBefore, IsOrdered}
+use Rattle.steal_rounds.specs.inside.Orders.{low_half, high_half, AreKeys, RanksBefore, IsOrdered}
 use Rattle.steal_rounds.proofs.Rises.{contains_has, has_contains}
 
 -- ---- keys
@@ -79,8 +79,8 @@ ordered has_rank numbers keys sorted are same rising = record {
         let f = get_or_from_slice_get sorted j b 0 later in
         omega (arith, l, e, f)
 
-    by : (a b : ℕ) → a ≤ b → Contains sorted a → Contains sorted b → (s t : ℕ) → low_half a ≡ s → low_half b ≡ t → IsBefore has_rank s t
-    by a b le in_a in_b s t e f = subst (λ n. IsBefore has_rank n t) e (subst (λ n. IsBefore has_rank (low_half a) n) f (record {
+    by : (a b : ℕ) → a ≤ b → Contains sorted a → Contains sorted b → (s t : ℕ) → low_half a ≡ s → low_half b ≡ t → RanksBefore has_rank s t
+    by a b le in_a in_b s t e f = subst (λ n. RanksBefore has_rank n t) e (subst (λ n. RanksBefore has_rank (low_half a) n) f (record {
       rank = high_half a;
       later_rank = high_half b;
       has = are.ranks_are a (Contains-permutation sorted keys a (IsPermutation-sym keys sorted same) in_a);

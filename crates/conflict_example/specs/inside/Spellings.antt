@@ -27,8 +27,8 @@ numbers_among entries (x ∷ xs) = if_there (entry_number entries x) ++ numbers_
 abbrev pub node_of : List (List ℕ) → List ℕ → Option ℕ
 node_of entries x = entry_number (nodes entries) x
 
--- of the numbers of a walk back these are left on the path, and of the others these words are made and the strokes of the
--- open word are this node
+-- of the numbers of a walk back these are left on the path, and of the others these words are made and the strokes of
+-- the open word are this node
 pub record IsSpelling (entries words : List (List ℕ)) (trail path : List ℕ) (open_node : Option ℕ)
     (made : List ℕ) : Type 0 where
   pub done : List ℕ

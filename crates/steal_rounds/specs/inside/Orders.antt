@@ -1,7 +1,7 @@
 -- The order in which the numbers of a round are worked.
 --     low_half key, high_half key      the number and the rank of a key
 --     AreKeys has_rank numbers keys    each number has a key, with a rank that the number has
---     IsBefore has_rank s t            s has a lesser rank than t, or the same and isn't the greater number
+--     RanksBefore has_rank s t         s has a lesser rank than t, or the same and isn't the greater number
 --     IsOrdered has_rank xs ys         ys has the numbers of xs, each as often, and none before a later one of less rank
 use Rattle.std.specs.Prelude.{◌≡◌, ℕ, ◌%◌, ◌/◌, ◌<◌, ◌≤◌, ◌⊎◌, List, map, Some, Contains, slice_get}
 use Rattle.std.specs.List.Sorted.{IsPermutation}
@@ -17,7 +17,7 @@ pub record AreKeys (has_rank : ℕ → ℕ → Type 0) (numbers keys : List ℕ)
   pub numbers_are : map low_half keys ≡ numbers
   pub ranks_are : (key : ℕ) → Contains keys key → has_rank (low_half key) (high_half key)
 
-pub record IsBefore (has_rank : ℕ → ℕ → Type 0) (s t : ℕ) : Type 0 where
+pub record RanksBefore (has_rank : ℕ → ℕ → Type 0) (s t : ℕ) : Type 0 where
   pub rank : ℕ
   pub later_rank : ℕ
   pub has : has_rank s rank
@@ -26,4 +26,4 @@ pub record IsBefore (has_rank : ℕ → ℕ → Type 0) (s t : ℕ) : Type 0 whe
 
 pub record IsOrdered (has_rank : ℕ → ℕ → Type 0) (xs ys : List ℕ) : Type 0 where
   pub same : IsPermutation xs ys
-  pub rises : (i j s t : ℕ) → i ≤ j → slice_get ys i ≡ Some s → slice_get ys j ≡ Some t → IsBefore has_rank s t
+  pub rises : (i j s t : ℕ) → i ≤ j → slice_get ys i ≡ Some s → slice_get ys j ≡ Some t → RanksBefore has_rank s t
