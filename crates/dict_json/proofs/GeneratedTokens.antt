@@ -1,17 +1,19 @@
 -- How the text of a generated dictionary is read.
-use Rattle.std.proofs.Common.{ℕ, ◌≡◌, ◌<◌, ◌≤◌, ◌^◌, List, [], ◌∷◌, ◌++◌, false, refl, sym, ap, ap₂, ◌∙◌, arith, Some, option_and_then, decimal, codes, flat_map, append_assoc, append-nil}
+use Rattle.std.proofs.Common.{ℕ, ◌≡◌, ◌<◌, ◌^◌, List, [], ◌∷◌, ◌++◌, false, refl, sym, ap, ap₂, ◌∙◌, Some, decimal, codes, flat_map, map, append_assoc}
 use Rattle.std.specs.List.{join_by, AllByRecursion}
 use Rattle.json.specs.Token.{begin_object, end_object, key, string}
 use Rattle.json.specs.Lex.{Lexeme, token, comma, colon, string_token, between, lex, fresh, after_value, begins_colon, punctuate, tokens}
 use Rattle.json.specs.Json as json
 use Rattle.json.specs.Json.{value, if_last}
 use Rattle.json.specs.Print.{escape}
-use Rattle.json.specs.Tree.{json_tokens, members_tokens, members_depth}
+use Rattle.json.specs.Tree.{json_tokens, members_tokens}
 use Rattle.json.proofs.Printed.Strings.{content-escape, lex-escape}
-use Rattle.json.proofs.Printed.Trees.{value-json_tokens}
 use Rattle.serde_json.specs.Data as serde
 use Rattle.serde_json.specs.Data.{put}
-use Rattle.serde_json.specs.Read.{of_json, of_members, read}
+use Rattle.serde_json.specs.Read.{read}
+use Rattle.dict_json.specs.Reading.{Keyed}
+use Rattle.dict_json.specs.inside.Texts.{put_texts}
+use Rattle.dict_json.proofs.TextTokens.{json_texts, read_members}
 use Rattle.dict_json.specs.Generated.{first_draw, key_of, member_text}
 use Rattle.dict_json.proofs.PlainTexts.{key_plain, key_unescaped, value_unescaped, member_plain}
 
@@ -55,10 +57,13 @@ module _ (start : ℕ) where
 
   -- ---- tokens
 
+  -- the key of an entry with its text
+  abbrev pub pair_of : ℕ → Keyed
+  pair_of i = record { key = key_of start i; text = value_of i }
+
   -- the members of these entries
-  abbrev pub json_members : List ℕ → json.Members
-  json_members [] = json.no_members
-  json_members (i ∷ is) = json.member (key_of start i) (json.string (value_of i)) (json_members is)
+  abbrev json_members : List ℕ → json.Members
+  json_members is = json_texts (map pair_of is)
 
   no_colon : (is : List ℕ) → begins_colon (more_lexemes is (token end_object ∷ [])) ≡ false
   no_colon [] = refl
@@ -87,22 +92,9 @@ module _ (start : ℕ) where
 
   -- ---- the value
 
-  flat : (is : List ℕ) → members_depth (json_members is) ≤ 0
-  flat [] = omega arith
-  flat (i ∷ is) = omega (arith, flat is)
-
   -- the members that were found, with these
   abbrev pub with_members : List ℕ → serde.Members → serde.Members
-  with_members [] found = found
-  with_members (i ∷ is) found = with_members is (put (key_of start i) (serde.string (value_of i)) found)
-
-  of_members_found : (is : List ℕ) (found : serde.Members) → of_members (json_members is) found ≡ Some (with_members is found)
-  of_members_found [] found = refl
-  of_members_found (i ∷ is) found = of_members_found is (put (key_of start i) (serde.string (value_of i)) found)
+  with_members is found = put_texts (map pair_of is) found
 
   pub read_object : (i : ℕ) (is : List ℕ) → AllByRecursion (λ j. j < 2 ^ 64) (i ∷ is) → read (object_text i is) ≡ Some (serde.object (with_members (i ∷ is) serde.no_members))
-  read_object i is small =
-      let whole = json.object (json_members (i ∷ is)) in
-      ap (λ ts. option_and_then of_json (option_and_then (λ p. if_last p.0 p.1) (value 127 ts))) (tokens_object i is small ∙ sym (append-nil (json_tokens whole)))
-      ∙ ap (λ r. option_and_then of_json (option_and_then (λ p. if_last p.0 p.1) r)) (value-json_tokens whole 127 [] (omega (arith, flat (i ∷ is))))
-      ∙ ap (λ o. option_and_then (λ ms. Some (serde.object ms)) o) (of_members_found (i ∷ is) serde.no_members)
+  read_object i is small = read_members (object_text i is) (map pair_of (i ∷ is)) (tokens_object i is small)

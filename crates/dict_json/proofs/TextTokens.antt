@@ -8,13 +8,13 @@ use Rattle.json.specs.Tree.{json_tokens, members_tokens, members_depth}
 use Rattle.json.proofs.Printed.Trees.{value-json_tokens}
 use Rattle.serde_json.specs.Data as serde
 use Rattle.serde_json.specs.Data.{Members, no_members, object, put}
-use Rattle.serde_json.specs.Read.{of_json, of_members}
+use Rattle.serde_json.specs.Read.{of_json, of_members, read}
 use Rattle.dict_json.specs.Reading.{Keyed, reading}
 use Rattle.dict_json.specs.inside.Texts.{put_texts, text_tokens}
 use Rattle.dict_json.proofs.ReadingLemmas.{reading-of_text}
 
 -- the members as the grammar has them
-abbrev json_texts : List Keyed → json.Members
+abbrev pub json_texts : List Keyed → json.Members
 json_texts [] = json.no_members
 json_texts (p ∷ ps) = json.member p.key (json.string p.text) (json_texts ps)
 
@@ -30,14 +30,18 @@ of_members_texts : (ps : List Keyed) (found : Members) → of_members (json_text
 of_members_texts [] found = refl
 of_members_texts (p ∷ ps) found = of_members_texts ps (put p.key (serde.string p.text) found)
 
-pub read_texts : (text : List ℕ) (ps : List Keyed) → IsUtf8 text → tokens text ≡ begin_object ∷ text_tokens ps (end_object ∷ []) → reading text ≡ Some (object (put_texts ps no_members))
-read_texts text ps utf8 are =
+-- a text with the tokens of the members is read as the object
+pub read_members : (text : List ℕ) (ps : List Keyed) → tokens text ≡ json_tokens (json.object (json_texts ps)) → read text ≡ Some (object (put_texts ps no_members))
+read_members text ps are =
     let whole = json.object (json_texts ps) in
-    reading-of_text text (object (put_texts ps no_members)) utf8 (
-    ap (λ ts. option_and_then of_json (option_and_then (λ p. if_last p.0 p.1) (value 127 ts))) (are ∙ ap (λ (ts : List Token). begin_object ∷ ts) (tokens_are ps) ∙ sym (append-nil (json_tokens whole)))
+    ap (λ ts. option_and_then of_json (option_and_then (λ p. if_last p.0 p.1) (value 127 ts))) (are ∙ sym (append-nil (json_tokens whole)))
     ∙ ap (λ r. option_and_then of_json (option_and_then (λ p. if_last p.0 p.1) r)) (value-json_tokens whole 127 [] (omega (arith, flat ps)))
     ∙ ap (λ o. option_and_then (λ ms. Some (object ms)) o) (of_members_texts ps no_members)
-    )
+
+-- ---- what is taken
+
+pub read_taken : (text : List ℕ) (ps : List Keyed) → IsUtf8 text → tokens text ≡ begin_object ∷ text_tokens ps (end_object ∷ []) → reading text ≡ Some (object (put_texts ps no_members))
+read_taken text ps utf8 are = reading-of_text text (object (put_texts ps no_members)) utf8 (read_members text ps (are ∙ ap (λ (ts : List Token). begin_object ∷ ts) (tokens_are ps)))
 
 -- one more at the end
 pushed : (ps : List Keyed) (p : Keyed) (rest : List Token) → text_tokens ps (key p.key ∷ string p.text ∷ rest) ≡ text_tokens (ps ++ p ∷ []) rest
