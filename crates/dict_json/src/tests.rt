@@ -162,6 +162,20 @@ fn nested_too_deep(rt: HostRuntime) -> Result<(), Fail> {
     let bytes = [b'['; 200];
     let line = few(&rt, rt.alloc(), &bytes)?;
     assert_eq!(rt; line.as_str(), "this is no JSON");
+    // In a member 126 brackets may stand inside one another.
+    for (depth, expected) in [(126, "the value of S is no text"), (127, "this is no JSON")] {
+        let mut text = String::new(rt.alloc());
+        text.push_str("{\"T\": \"t\", \"S\": ")?;
+        for _ in 0..depth {
+            text.push_str("[")?;
+        }
+        for _ in 0..depth {
+            text.push_str("]")?;
+        }
+        text.push_str("}")?;
+        let line = few(&rt, rt.alloc(), text.as_bytes())?;
+        assert_eq!(rt; line.as_str(), expected, "at {depth}");
+    }
     Ok(())
 }
 
