@@ -7,6 +7,8 @@ use round_core::StepGraph;
 use std::marker::Model;
 
 /// The graph of the kept moves, by the numbers of states. A number without a state has no targets. It borrows the numbering.
+///
+/// `first` and `next` are inlined into the search, so that a cursor stays in registers from one target to the next.
 #[derive(Drop)]
 pub struct ClosureGraph<'a> {
     numbering: &'a Numbering<'a>,
@@ -54,10 +56,12 @@ impl<'a> StepGraph for ClosureGraph<'a> {
         0
     }
 
+    #[inline(always)]
     fn first(&self, state: u32) -> Option<Moves<'a>> {
         self.numbering.moves(state)
     }
 
+    #[inline(always)]
     fn next(&self, cursor: &mut Option<Moves<'a>>) -> Option<u32> {
         match cursor {
             Some(moves) => match moves.next() {
