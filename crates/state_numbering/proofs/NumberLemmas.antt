@@ -1,5 +1,5 @@
 -- The number of a state by the part of its longer list.
-use Rattle.std.proofs.Common.{◌≡◌, ℕ, ◌+◌, ◌<◌, ◌≤◌, List, [], length, refl, sym, ap, subst, ◌∙◌, arith, ◌⊎◌, inl, inr, Contains}
+use Rattle.std.proofs.Common.{◌≡◌, ℕ, ◌+◌, ◌<◌, ◌≤◌, List, [], length, sym, ap, subst, ◌∙◌, arith, ◌⊎◌, inl, inr, Contains}
 use Rattle.std.proofs.lemmas.List.{get_or_default}
 use Rattle.steno_rules.specs.Outlines.{AreWords}
 use Rattle.steno_rules.specs.Nodes.{nodes}
@@ -8,7 +8,6 @@ use Rattle.steno_rules.specs.States as states
 use Rattle.steno_rules.proofs.NodeLemmas.{nodes-rising}
 use Rattle.steno_rules.proofs.Numbers.{outline_of-once}
 use Rattle.closure_laws.proofs.StateNumberLemmas.{place_inside, place_there, longer_cases, shape_of_state, shaped-below}
-use Rattle.outline_trie.proofs.LookLemmas.{root_is}
 use Rattle.outline_trie.specs.Tries.{IsNode, node_strokes}
 use Rattle.closure_state.specs.declared.state.State.{State}
 use Rattle.closure_state.specs.NodeStates.{state_at, IsNodeState}
@@ -27,27 +26,20 @@ pub number_at : (entries : List (List ℕ)) (s : states.State) (node : ℕ) → 
 number_at entries s node is inside = ap (λ k. part_start (nodes entries) k + number_within (length s.u) (length s.v) s.mark) (ap (place_of (nodes entries)) is ∙ place_node entries node inside)
 
 -- It is the first number of the longer list's part and the number within it.
-pub number_is : (entries words : List (List ℕ)) (s : State) (window word long : Part) (offset : ℕ) → IsNodeState entries words s →
-    IsNodePart entries s.window window → IsNodePart entries s.word word →
-    ((word.depth ≤ window.depth) × (long ≡ window)) ⊎ ((window.depth < word.depth) × (long ≡ word)) →
-    offset ≡ number_within window.depth word.depth s.mark → long.start + offset ≡ state_number entries (state_at entries s)
-number_is entries words s window word long offset is u v by offset_is =
-    let inner : offset ≡ number_within (length (node_strokes entries s.window)) (length (node_strokes entries s.word)) s.mark = offset_is ∙ ap (λ d. number_within d word.depth s.mark) u.depth ∙ ap (λ d. number_within (length (node_strokes entries s.window)) d s.mark) v.depth in
+pub number_is : (entries words : List (List ℕ)) (s : State) (window : Part) (depth start offset : ℕ) → IsNodeState entries words s →
+    IsNodePart entries s.window window → depth ≡ length (node_strokes entries s.word) →
+    ((depth ≤ window.depth) × (start ≡ window.start)) ⊎ ((window.depth < depth) × (start ≡ part_start (nodes entries) s.word)) →
+    offset ≡ number_within window.depth depth s.mark → start + offset ≡ state_number entries (state_at entries s)
+number_is entries words s window depth start offset is u v by offset_is =
+    let inner : offset ≡ number_within (length (node_strokes entries s.window)) (length (node_strokes entries s.word)) s.mark = offset_is ∙ ap (λ d. number_within d depth s.mark) u.depth ∙ ap (λ d. number_within (length (node_strokes entries s.window)) d s.mark) v in
     elim by [
       | inl h ↦
-          let whole : longer (state_at entries s) ≡ node_strokes entries s.window = elim (longer_cases (state_at entries s)) [ inl k ↦ k.1 | inr k ↦ absurd (omega (arith, k.0, h.0, u.depth, v.depth)) ] in
-          let from : long.start ≡ part_start (nodes entries) s.window = ap (λ (p : Part). p.start) h.1 ∙ u.start in
-          ap (λ k. k + offset) from ∙ ap (λ k. part_start (nodes entries) s.window + k) inner ∙ sym (number_at entries (state_at entries s) s.window whole is.window)
+          let whole : longer (state_at entries s) ≡ node_strokes entries s.window = elim (longer_cases (state_at entries s)) [ inl k ↦ k.1 | inr k ↦ absurd (omega (arith, k.0, h.0, u.depth, v)) ] in
+          ap (λ k. k + offset) (h.1 ∙ u.start) ∙ ap (λ k. part_start (nodes entries) s.window + k) inner ∙ sym (number_at entries (state_at entries s) s.window whole is.window)
       | inr h ↦
-          let whole : longer (state_at entries s) ≡ node_strokes entries s.word = elim (longer_cases (state_at entries s)) [ inl k ↦ absurd (omega (arith, k.0, h.0, u.depth, v.depth)) | inr k ↦ k.1 ] in
-          let from : long.start ≡ part_start (nodes entries) s.word = ap (λ (p : Part). p.start) h.1 ∙ v.start in
-          ap (λ k. k + offset) from ∙ ap (λ k. part_start (nodes entries) s.word + k) inner ∙ sym (number_at entries (state_at entries s) s.word whole is.word)
+          let whole : longer (state_at entries s) ≡ node_strokes entries s.word = elim (longer_cases (state_at entries s)) [ inl k ↦ absurd (omega (arith, k.0, h.0, u.depth, v)) | inr k ↦ k.1 ] in
+          ap (λ k. k + offset) h.1 ∙ ap (λ k. part_start (nodes entries) s.word + k) inner ∙ sym (number_at entries (state_at entries s) s.word whole is.word)
     ]
-
--- The root's part begins with the first number, and the root has no strokes.
-pub root_part : (entries : List (List ℕ)) (node : ℕ) → node ≡ 0 → IsNodePart entries node (record { start = 0; depth = 0 })
-root_part entries node is =
-    subst (λ n. IsNodePart entries n (record { start = 0; depth = 0 })) (sym is) (record { start = refl; depth = sym (ap length (root_is entries)); short = omega arith })
 
 -- Each number of a state is below the count.
 pub number_below : (entries words : List (List ℕ)) (s : State) → AreWords entries words → IsNodeState entries words s →

@@ -80,7 +80,8 @@ impl<'a> Numbering<'a> {
         self.parts.count()
     }
 
-    /// The number of a state, found without a look-up. Between words the part of the window alone is read.
+    /// The number of a state, found without a look-up. Of the open word only the number of its strokes is read, unless it is
+    /// the longer list.
     pub fn number(&self, state: State) -> u32
         requires { IsNodeState self.now.entries self.now.words state }
         ensures number { result
@@ -88,24 +89,16 @@ impl<'a> Numbering<'a> {
         ensures below { result < number_count self.now.entries }
     {
         let window = self.parts.part(state.window);
-        if state.word == 0 {
-            return window.start
-                + offset_of(Lengths {
-                    window: window.depth,
-                    word: 0,
-                    mark: state.mark,
-                });
-        }
-        let word = self.parts.part(state.word);
-        let longer = if word.depth <= window.depth {
-            window
+        let word = self.trie.depth(state.word);
+        let start = if word <= window.depth {
+            window.start
         } else {
-            word
+            self.parts.part(state.word).start
         };
-        longer.start
+        start
             + offset_of(Lengths {
                 window: window.depth,
-                word: word.depth,
+                word,
                 mark: state.mark,
             })
     }
