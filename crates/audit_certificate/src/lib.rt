@@ -1,8 +1,9 @@
 //! The certificate that an audit writes of itself: a file that proves the report without the search.
 //!
-//! A search leaves a settled word for each number of a state, and the conflicts are read from these. [`write_certificate`]
-//! writes both to a file: the reached states with their distances, as runs of states that follow one another and have one
-//! distance, and the conflicts with their examples. Whoever doubts the report checks this file, without a search.
+//! A search leaves a settled word for each number of a state, and the conflicts are read from these.
+//! [`write_certificate`] writes both to a file: the reached states with their distances, as runs of states that follow
+//! one another and have one distance, and the conflicts with their examples. Whoever doubts the report checks this
+//! file, without a search.
 //!
 //! That the certificate is valid, and that no run could be longer, is the law [`own_certificates`].
 #![tactic(auto)]

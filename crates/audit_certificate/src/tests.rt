@@ -10,8 +10,8 @@ use std::alloc::{AllocError, Global};
 use std::process::Abort;
 use std::test::Fail;
 
-/// Out of step: the entries S, S/T, T/K/P, P/W and W have 54 numbers of states. These are the reached ones, each with its
-/// distance.
+/// Out of step: the entries S, S/T, T/K/P, P/W and W have 54 numbers of states. These are the reached ones, each with
+/// its distance.
 const OUT_OF_STEP: [(usize, u32); 21] = [
     (0, 0),
     (1, 1),
@@ -66,8 +66,8 @@ fn rows(alloc: Global, words: &[u32]) -> Result<Vec<Conflict>, AllocError>
     Ok(rows)
 }
 
-/// Writes the certificate of this table and this row over an old file, where the call of this number fails, and compares
-/// the answer and the file.
+/// Writes the certificate of this table and this row over an old file, where the call of this number fails, and
+/// compares the answer and the file.
 fn check_written(
     rt: &impl Abort,
     alloc: Global,

@@ -72,16 +72,16 @@ fn put_lines<F: Files>(
     put_conflicts(alloc, rows, writer, files)
 }
 
-/// Writes the certificate of an audit to the named file: of so many entries, with the settled words of its search and the
-/// rows of its report. Whoever reads the file has a proof of the audit: a valid certificate, whose rows are exactly the
-/// conflicts.
+/// Writes the certificate of an audit to the named file: of so many entries, with the settled words of its search and
+/// the rows of its report. Whoever reads the file has a proof of the audit: a valid certificate, whose rows are exactly
+/// the conflicts.
 ///
-/// A certificate of more than 4,294,967,296 bytes is refused by `TooLong`; then the file holds its first lines, as many as
-/// fit. After `Failed` or `Memory` the file holds a prefix of the lines that fit, or all files are as they were. No file is
-/// being written afterwards, and `Failed` comes only with a fault on writing this file.
+/// A certificate of more than 4,294,967,296 bytes is refused by `TooLong`; then the file holds its first lines, as many
+/// as fit. After `Failed` or `Memory` the file holds a prefix of the lines that fit, or all files are as they were. No
+/// file is being written afterwards, and `Failed` comes only with a fault on writing this file.
 ///
-/// The states take no memory: each run is written when its end is found, through one buffer. A row is copied while it is
-/// written. The table is walked once.
+/// The states take no memory: each run is written when its end is found, through one buffer. A row is copied while it
+/// is written. The table is walked once.
 pub fn write_certificate<F: Files>(
     alloc: Global,
     entries: u32,

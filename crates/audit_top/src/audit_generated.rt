@@ -1,4 +1,5 @@
-//! `audit-generated`: how many conflicts a dictionary has that is made from two numbers, and what the search for them counted.
+//! `audit-generated`: how many conflicts a dictionary has that is made from two numbers, and what the search for them
+//! counted.
 
 ghost use Rattle.std.specs.Prelude.{◌≡◌, ◌≤◌, ◌<◌, ◌^◌, ◌∷◌, [], IfErr, IfOk, length};
 ghost use Rattle.dict_json.specs.Dictionaries.{DictionaryView};

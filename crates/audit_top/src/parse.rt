@@ -1,4 +1,5 @@
-//! `parse`: whether the words of some dictionaries can be read in one way only, and if not, two readings of fewest strokes.
+//! `parse`: whether the words of some dictionaries can be read in one way only, and if not, two readings of fewest
+//! strokes.
 
 ghost use Rattle.std.specs.Prelude.{◌≡◌, ◌≤◌, ◌<◌, ◌^◌, IfSome, Some, length, map, string_bytes};
 ghost use Rattle.steno_rules.specs.StateNumbers.{number_count};

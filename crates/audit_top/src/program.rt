@@ -98,7 +98,8 @@ fn run_outcome<R: Threads + Wait + Sync, F: Files, S: Sink, K: Gate + Sync>(
 
 /// The whole program: from what `env::args` returns to the exit status.
 ///
-/// Arguments that aren't text in UTF-8 are no command, and the program says so, as it does where one has 2^32 bytes or more.
+/// Arguments that aren't text in UTF-8 are no command, and the program says so, as it does where one has 2^32 bytes or
+/// more.
 pub fn run_program<R: Threads + Wait + Sync, F: Files, S: Sink, K: Gate + Sync>(
     rt: &R,
     alloc: Global,

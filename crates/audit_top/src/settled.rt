@@ -1,4 +1,5 @@
-//! `settled`: all pairs of some dictionaries that stay across a boundary, each with a shortest sequence of words that has it.
+//! `settled`: all pairs of some dictionaries that stay across a boundary, each with a shortest sequence of words that
+//! has it.
 
 ghost use Rattle.std.specs.Prelude.{◌≡◌, ◌≤◌, ◌<◌, ◌^◌, Some, length, map, string_bytes};
 ghost use Rattle.graph_rules.specs.Graphs.{AreSettled};

@@ -203,7 +203,8 @@ fn run_given<R: Threads + Wait + Sync, F: Files, S: Sink, K: Gate + Sync>(
     finish(alloc, out, answered)
 }
 
-/// Does what the arguments ask for, where that waits for nobody, and returns how it ended. As [`run`], but it uses no thread.
+/// Does what the arguments ask for, where that waits for nobody, and returns how it ended. As [`run`], but it uses no
+/// thread.
 pub fn run_plain<F: Files, S: Sink>(
     alloc: Global,
     args: &[String],
@@ -230,12 +231,13 @@ pub fn run_plain<F: Files, S: Sink>(
 
 /// Does what the arguments ask for, and returns how it ended. An audit may wait for its workers and for the gate.
 ///
-/// What is expected of a run is a relation on the arguments and on what the files hold: a status, a text that is added to the
-/// output, and for some commands a file that is written. The run ends so; or a named file failed, and its line is added; or the
-/// output failed or memory ran out, and a prefix is. Where a file couldn't be read, no file has changed.
+/// What is expected of a run is a relation on the arguments and on what the files hold: a status, a text that is added
+/// to the output, and for some commands a file that is written. The run ends so; or a named file failed, and its line
+/// is added; or the output failed or memory ran out, and a prefix is. Where a file couldn't be read, no file has
+/// changed.
 ///
-/// Where `audit-to` ends with [`Status::Clean`] or [`Status::Conflicts`], the file CERT has a valid certificate, which `check`
-/// accepts. Its rows are exactly the conflicts, and those of the report.
+/// Where `audit-to` ends with [`Status::Clean`] or [`Status::Conflicts`], the file CERT has a valid certificate, which
+/// `check` accepts. Its rows are exactly the conflicts, and those of the report.
 pub fn run<R: Threads + Wait + Sync, F: Files, S: Sink, K: Gate + Sync>(
     rt: &R,
     alloc: Global,

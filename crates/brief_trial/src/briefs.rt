@@ -108,9 +108,10 @@ fn try_group<R: Threads + Wait + Sync, K: Gate + Sync>(
 
 /// The trial of each brief, in the order given: the conflicts that it would have as an entry and a word of the stack.
 ///
-/// So many briefs as there are workers are tried at once, so brief i is tried by worker i modulo workers. Each has a trie, a
-/// search and, where it is no entry yet, copies of all outlines of its own. The gate is called before a brief is tried, with
-/// round 0, its worker and its number. What is found depends neither on the number of workers nor on the gate.
+/// So many briefs as there are workers are tried at once, so brief i is tried by worker i modulo workers. Each has a
+/// trie, a search and, where it is no entry yet, copies of all outlines of its own. The gate is called before a brief
+/// is tried, with round 0, its worker and its number. What is found depends neither on the number of workers nor on the
+/// gate.
 ///
 /// A fault is that of the first brief that has one; those of later groups are not tried then.
 pub fn try_briefs<R: Threads + Wait + Sync, K: Gate + Sync>(

@@ -5,8 +5,8 @@ ghost use Rattle.steno_rules.specs.Outlines.{AreRising};
 ghost use Rattle.brief_trial.specs.Trials.{AreTrials, TrialView, with_brief};
 ghost use Rattle.brief_trial.specs.declared.briefs.TheConstants.{MAX_BRIEFS, MAX_TRIERS};
 
-/// Briefs have one list of trials at most. So what is found depends neither on the number of workers nor on which of them is
-/// done first.
+/// Briefs have one list of trials at most. So what is found depends neither on the number of workers nor on which of
+/// them is done first.
 pub fn one_list()
     ensures { (entries words briefs : List (List ℕ)) (xs ys : List TrialView) →
         AreTrials entries words briefs xs → AreTrials entries words briefs ys → xs ≡ ys }

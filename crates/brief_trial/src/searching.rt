@@ -19,7 +19,8 @@ use state_numbering::{ClosureGraph, Numbering};
 use std::alloc::Global;
 use stroke::Outline;
 
-/// The conflicts of an entry, where the entries with a flag that is true are words. Trie and table live no longer than this call.
+/// The conflicts of an entry, where the entries with a flag that is true are words. Trie and table live no longer than
+/// this call.
 pub(crate) fn search_entry(
     alloc: Global,
     entries: &[Outline],

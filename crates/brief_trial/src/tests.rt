@@ -131,6 +131,7 @@ struct Meeting {
 const TURNS: u32 = 20000000;
 
 impl Meeting {
+    /// A meeting to which nobody came yet.
     fn new() -> Meeting {
         Meeting {
             first_came: AtomicU64::new(0),
@@ -139,6 +140,7 @@ impl Meeting {
         }
     }
 
+    /// Notes who came, and waits a while for the other.
     fn meet(&self, mine: &AtomicU64, other: &AtomicU64) {
         mine.store(1, Ordering::SeqCst);
         for _turn in 0..TURNS {

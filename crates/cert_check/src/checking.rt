@@ -99,10 +99,10 @@ fn checked<F: Files>(
 
 /// Whether the file is a valid certificate for the entries and words of the stack.
 ///
-/// What is accepted is valid by the definition, with all targets, and its rows are the conflicts. What is rejected is not,
-/// and the first check that fails is told. A fault, the limit and memory are told at the place in the file at which they are
-/// met: a rejection at an earlier place comes before them. The file is read once. The trie is that of the stack's entries.
-/// The cost is linear in the file and in the states' moves, and for each row in its strokes.
+/// What is accepted is valid by the definition, with all targets, and its rows are the conflicts. What is rejected is
+/// not, and the first check that fails is told. A fault, the limit and memory are told at the place in the file at
+/// which they are met: a rejection at an earlier place comes before them. The file is read once. The trie is that of
+/// the stack's entries. The cost is linear in the file and in the states' moves, and for each row in its strokes.
 pub fn check<F: Files>(
     alloc: Global,
     stack: &Stack,

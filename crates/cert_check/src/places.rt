@@ -19,8 +19,8 @@ const EMPTY: Place = Place {
     distance: 0,
 };
 
-/// Lists the states from the first to the last in this place, where all are numbers of states and greater than those listed
-/// before. The last place listed before isn't empty.
+/// Lists the states from the first to the last in this place, where all are numbers of states and greater than those
+/// listed before. The last place listed before isn't empty.
 pub(crate) fn list_run(
     numbering: &Numbering<'_>,
     places: &mut Vec<Place>,

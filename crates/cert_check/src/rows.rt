@@ -64,8 +64,8 @@ fn is_of_pair(found: Found, row: &Conflict) -> bool
         && found.distance < FAR
 }
 
-/// Whether a row is the one of the pair: its words have as many strokes as the least distance of the pair's listed hits, and
-/// show the pair.
+/// Whether a row is the one of the pair: its words have as many strokes as the least distance of the pair's listed
+/// hits, and show the pair.
 pub(crate) fn is_row_for(
     alloc: Global,
     stack: &Stack,

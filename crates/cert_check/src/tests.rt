@@ -55,8 +55,8 @@ fn answer(
     check(alloc, stack, &trie, &numbering, &mut files, "c.txt")
 }
 
-/// A change a line: the version, a part of its certificate, what stands in that place, and the line and the reason of the
-/// rejection, with `|` between them. `;` is a line feed.
+/// A change a line: the version, a part of its certificate, what stands in that place, and the line and the reason of
+/// the rejection, with `|` between them. `;` is a line feed.
 const CHANGES: &str = "\
 1|certificate 1|certificate 3|1 Form
 1|entries 5|entries 4|2 Entries

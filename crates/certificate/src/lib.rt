@@ -1,8 +1,8 @@
 //! Certificates: files that prove an audit by themselves, line by line.
 //!
 //! Whoever doubts a report can check its certificate without repeating the search. Here are its lines and their texts
-//! alone: [`CertLine`] is a line, [`CertWriter`] writes lines to a file and [`CertReader`] reads them. Whether the lines
-//! prove anything is decided by the crate that checks them.
+//! alone: [`CertLine`] is a line, [`CertWriter`] writes lines to a file and [`CertReader`] reads them. Whether the
+//! lines prove anything is decided by the crate that checks them.
 //!
 //! ```text
 //! boundary-certificate 2      the version
@@ -46,7 +46,8 @@ pub fn limits()
     ensures bytes { (LIMIT ≡ certificate_limit) × (certificate_limit ≡ 4294967296) }
 {}
 
-/// A text is read as a line exactly where it is the text of this line, and the line's numbers have room in their fields.
+/// A text is read as a line exactly where it is the text of this line, and the line's numbers have room in their
+/// fields.
 pub fn lines_read()
     ensures { (text : List ℕ) (line : Line)
         → (read_line text ≡ Some line) ↔ ((text ≡ line_text line) × (fits line ≡ true)) }

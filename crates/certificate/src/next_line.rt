@@ -1,7 +1,7 @@
 //! The next line of a file, also where it is longer than what is held.
 //!
-//! A line that isn't held whole can only be a row, whose words have no end: it is read piece by piece up to the last space
-//! of each. Any other such line is passed over, and nothing of it is kept.
+//! A line that isn't held whole can only be a row, whose words have no end: it is read piece by piece up to the last
+//! space of each. Any other such line is passed over, and nothing of it is kept.
 
 ghost use Rattle.std.specs.Prelude.{◌≡◌, ◌<◌, ◌≤◌, ◌+◌, ◌^◌, length, take, IfErr, IfOk, codes, is_err, if◌then◌else◌, nat_le};
 ghost use Rattle.std.specs.Str.{bytes_eq};
@@ -106,8 +106,8 @@ fn row_end(
     Ok(give(pieces, line, body, len))
 }
 
-/// Reads the numbers up to the last space that is held, and answers how many bytes were passed over, or None where the line
-/// can't be a row.
+/// Reads the numbers up to the last space that is held, and answers how many bytes were passed over, or None where the
+/// line can't be a row.
 fn row_piece(pieces: &mut Pieces, numbers: &mut Vec<u32>) -> Result<Option<usize>, AllocError>
     requires { length pieces.old.left ≤ piece_size }
     ensures piece { IfOk result (λ count.

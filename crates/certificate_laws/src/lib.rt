@@ -1,8 +1,8 @@
 //! The laws of certificates: a valid certificate proves an audit by itself, whoever wrote it.
 //!
 //! What a valid certificate is stands in this crate's specs/: a list of checks of its lines, against the closure of the
-//! entries. Each function here has an empty body, and its contract is a law, over every list of entries, every choice of
-//! words among them, and every file.
+//! entries. Each function here has an empty body, and its contract is a law, over every list of entries, every choice
+//! of words among them, and every file.
 #![tactic(auto)]
 
 ghost use Rattle.std.specs.Prelude.{ℕ, List, Bool, Option, ◌≡◌, ◌<◌, ◌++◌, length};
@@ -17,8 +17,9 @@ ghost use Rattle.certificate_laws.specs.Checks.{Check, accepted, certificate_row
 ghost use Rattle.certificate_laws.specs.Closures.{Closure, closure_of, kept_numbers};
 ghost use Rattle.certificate_laws.specs.Validity.{IsValid, check_outcome, fresh_first, move_checks_of};
 
-/// The rows of a valid certificate are exactly the conflicts, each once and in order, with the fewest strokes and with words
-/// that show it, and the certificate announces their number. A conflict has fewer strokes than there are numbers of states.
+/// The rows of a valid certificate are exactly the conflicts, each once and in order, with the fewest strokes and with
+/// words that show it, and the certificate announces their number. A conflict has fewer strokes than there are numbers
+/// of states.
 pub fn valid_certificates()
     ensures conflicts { (entries : List (List ℕ)) (flags : List Bool) (bytes : List ℕ)
         → AreEntries entries → IsValid (closure_of entries flags) bytes
@@ -31,8 +32,8 @@ pub fn valid_certificates()
         → AreWords entries words → IsLeast entries words e place n → n < number_count entries }
 {}
 
-/// Where fresh is the first listed state, the first move that fails is the same whether all targets are checked or the kept
-/// ones alone.
+/// Where fresh is the first listed state, the first move that fails is the same whether all targets are checked or the
+/// kept ones alone.
 pub fn kept_moves()
     ensures { (entries : List (List ℕ)) (flags : List Bool) (all : List Listed)
         (most : Option ℕ) (at n : ℕ) (others : List (ℕ × Listed)) (more : List Check)
@@ -43,8 +44,8 @@ pub fn kept_moves()
         at all (fresh_first n others) ++ more) }
 {}
 
-/// Where the reader's limit lets the outcome be known, it is that of the definition: what is accepted is valid, and what is
-/// rejected is not.
+/// Where the reader's limit lets the outcome be known, it is that of the definition: what is accepted is valid, and
+/// what is rejected is not.
 pub fn decided_certificates()
     ensures accepted { (closure : Closure) (bytes : List ℕ) (n : ℕ)
         → check_outcome closure bytes ≡ accepted n → IsValid closure bytes }

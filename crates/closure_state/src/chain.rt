@@ -1,9 +1,9 @@
 //! The children of all ends of a window at once, by rising strokes and each stroke once.
 //!
-//! Where a stroke leads is said by the first node along the chain of a window's shorter ends that has a child by it. So the
-//! strokes that lead to a window of more than so many strokes are those of the rows of children along the chain, and where
-//! two rows have a stroke the row of the longer end counts. Nearly all chains have at most two rows. Those are walked, and
-//! a third one is searched.
+//! Where a stroke leads is said by the first node along the chain of a window's shorter ends that has a child by it. So
+//! the strokes that lead to a window of more than so many strokes are those of the rows of children along the chain,
+//! and where two rows have a stroke the row of the longer end counts. Nearly all chains have at most two rows. Those
+//! are walked, and a third one is searched.
 ghost use Rattle.std.specs.Prelude.{◌≡◌, ◌<◌, ◌≤◌, ◌+◌, ◌⊎◌, ℕ, List, length};
 ghost use Rattle.outline_trie.specs.Tries.{IsNode, node_strokes, AreChildren};
 ghost use Rattle.closure_state.specs.inside.Chains.{AreAlikeEnds, AreChildrenFrom, IsChainOfEnds, IsChainStep, IsLeastStroke, IsRestBefore, lesser as lesser_of, past as past_of};
@@ -11,8 +11,8 @@ ghost use Rattle.closure_state.specs.inside.Chains.{AreAlikeEnds, AreChildrenFro
 use match_window::Windows;
 use outline_trie::Trie;
 
-/// The rows of children along a chain of ends, from some stroke on: of the first two ends with children what is left of them,
-/// and the end at which the third one is looked for. Ends of fewer than `depth` strokes don't count.
+/// The rows of children along a chain of ends, from some stroke on: of the first two ends with children what is left of
+/// them, and the end at which the third one is looked for. Ends of fewer than `depth` strokes don't count.
 #[derive(Drop)]
 pub(crate) struct Chain<'a> {
     pub(crate) top: &'a [(u32, u32)],
@@ -58,8 +58,8 @@ fn from_bound(row: &[(u32, u32)], bound: u64) -> &[(u32, u32)]
     rest
 }
 
-/// The least stroke from a bound on by which an end of so many strokes has a child, with the child, along the chain that
-/// begins at a node.
+/// The least stroke from a bound on by which an end of so many strokes has a child, with the child, along the chain
+/// that begins at a node.
 fn least(trie: &Trie, windows: &Windows<'_>, end: u32, depth: u32, bound: u64) -> Option<(u32, u32)>
     requires windows { windows.now ≡ trie.now }
     requires node { IsNode trie.now end }

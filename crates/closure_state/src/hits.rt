@@ -6,8 +6,8 @@ use crate::state::{Hit, State};
 use match_window::Windows;
 use outline_trie::Trie;
 
-/// The hit that a state is, None exactly where it is none. Of a state it is asked only that the numbers are nodes and that a
-/// mark lies in the window.
+/// The hit that a state is, None exactly where it is none. Of a state it is asked only that the numbers are nodes and
+/// that a mark lies in the window.
 pub fn hit(trie: &Trie, windows: &Windows<'_>, state: &State) -> Option<Hit>
     requires windows { windows.now ≡ trie.now }
     requires nodes { HasNodes trie.now state.now }

@@ -16,8 +16,8 @@ use match_window::Windows;
 use outline_trie::Trie;
 use std::marker::Model;
 
-/// The targets of a state that are left, by rising strokes. For one stroke the target with an open word comes first, and that
-/// with a new mark last; a target may be listed more than once. No memory is taken.
+/// The targets of a state that are left, by rising strokes. For one stroke the target with an open word comes first,
+/// and that with a new mark last; a target may be listed more than once. No memory is taken.
 #[derive(Drop)]
 pub struct Moves<'a> {
     trie: &'a Trie,
@@ -50,8 +50,9 @@ impl<'a> Model for Moves<'a> {
         AreMoves m.windows.now m.trie.now m.words.now m.state m.strokes m.waiting };
 }
 
-/// How many strokes an end of a state's window has at least, where the kept targets are those by the children of its ends: with
-/// a mark, and between two words. None for a state whose targets are all kept and stand by the children of its open word.
+/// How many strokes an end of a state's window has at least, where the kept targets are those by the children of its
+/// ends: with a mark, and between two words. None for a state whose targets are all kept and stand by the children of
+/// its open word.
 fn chain_depth(state: &State) -> Option<u32>
     ensures { MatchOption result (IsRowState state.now) (IsChainDepth state.now) }
 {
@@ -94,8 +95,8 @@ impl<'a> Moves<'a> {
         }
     }
 
-    /// The kept targets of a state, in time that follows their number: a stroke after which no word is open and the window is
-    /// at most that stroke isn't looked at, but from a fresh start.
+    /// The kept targets of a state, in time that follows their number: a stroke after which no word is open and the
+    /// window is at most that stroke isn't looked at, but from a fresh start.
     pub fn kept(
         trie: &'a Trie,
         windows: &'a Windows<'a>,

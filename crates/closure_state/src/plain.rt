@@ -1,4 +1,5 @@
-//! The slow plain program, for the tests: what a state, its targets and its hit are, by the definitions over lists of strokes.
+//! The slow plain program, for the tests: what a state, its targets and its hit are, by the definitions over lists of
+//! strokes.
 
 use crate::{Hit, State};
 use longest_match::segment;

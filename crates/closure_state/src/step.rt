@@ -45,8 +45,8 @@ pub(crate) fn word_by(trie: &Trie, windows: &Windows<'_>, node: u32, other: u32)
     }
 }
 
-/// The window of a node's strokes and the last stroke of `child`, a child of `opened`. It is looked for along the node's chain
-/// of shorter ends, which often leads to `opened` itself or to the root.
+/// The window of a node's strokes and the last stroke of `child`, a child of `opened`. It is looked for along the
+/// node's chain of shorter ends, which often leads to `opened` itself or to the root.
 pub(crate) fn window_by(
     trie: &Trie,
     windows: &Windows<'_>,

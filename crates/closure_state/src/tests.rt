@@ -212,7 +212,8 @@ fn check_table(rt: &impl Abort, alloc: Global, table: Table<'_>) {
     check_nodes(rt, alloc, &plain, &trie, &windows, &words);
 }
 
-/// What is reached from a fresh start: the states in the order in which they are found, all their targets and the kept ones.
+/// What is reached from a fresh start: the states in the order in which they are found, all their targets and the kept
+/// ones.
 #[derive(Drop)]
 struct Reached {
     states: Vec<State>,

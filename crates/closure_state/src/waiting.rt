@@ -12,8 +12,8 @@ use crate::step::Step;
 use crate::word_set::WordSet;
 use outline_trie::Trie;
 
-/// Which of the three targets by a stroke are left: with the open word going on, with the word ended and the former mark one
-/// stroke later, and with the word ended and a new mark. All of them have one window.
+/// Which of the three targets by a stroke are left: with the open word going on, with the word ended and the former
+/// mark one stroke later, and with the word ended and a new mark. All of them have one window.
 #[derive(Drop)]
 pub(crate) struct Waiting {
     pub(crate) window: u32,

@@ -1,8 +1,8 @@
 //! The commands of the program, and the arguments of the command line that each is.
 //!
-//! [`read_words`] takes exactly the arguments that are written as a command (`specs/Commands.antt`), and says so by a function
-//! of them (`specs/Reading.antt`) and by a law. What each command reads, searches and writes stands in `specs/Inputs.antt`.
-//! It takes no memory. [`read_briefs`] reads the outlines of `try`, which are one argument.
+//! [`read_words`] takes exactly the arguments that are written as a command (`specs/Commands.antt`), and says so by a
+//! function of them (`specs/Reading.antt`) and by a law. What each command reads, searches and writes stands in
+//! `specs/Inputs.antt`. It takes no memory. [`read_briefs`] reads the outlines of `try`, which are one argument.
 #![tactic(auto)]
 
 mod briefs;

@@ -117,8 +117,8 @@ fn all_rows(
     Ok(rows)
 }
 
-/// All conflicts of a stack, by entry and then by place, each with its chosen example: words of fewest strokes, and of the
-/// walks of so few strokes that to the hit of least number. Each has fewer than 33,554,432 strokes.
+/// All conflicts of a stack, by entry and then by place, each with its chosen example: words of fewest strokes, and of
+/// the walks of so few strokes that to the hit of least number. Each has fewer than 33,554,432 strokes.
 pub fn conflicts(
     alloc: Global,
     numbering: &Numbering<'_>,

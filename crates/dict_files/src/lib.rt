@@ -1,8 +1,8 @@
 //! The dictionaries that a command's arguments name, read into a stack.
 //!
-//! An argument names a file, or with `match:` before the name a file whose outlines translate and are no words. [`read_stack`]
-//! reads the files in order and returns the stack or the first refusal, in the order in which a run reports them. It is for
-//! every command that works on dictionaries.
+//! An argument names a file, or with `match:` before the name a file whose outlines translate and are no words.
+//! [`read_stack`] reads the files in order and returns the stack or the first refusal, in the order in which a run
+//! reports them. It is for every command that works on dictionaries.
 #![tactic(auto)]
 
 ghost use Rattle.std.specs.Prelude.{◌≡◌};

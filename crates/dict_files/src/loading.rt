@@ -96,9 +96,9 @@ fn read_few<F: Files>(alloc: Global, files: &mut F, args: &[String]) -> Result<S
 
 /// The stack of the dictionaries that the arguments name, or the first refusal.
 ///
-/// Refused where they are too many, and then no file is opened and no memory is asked for; then for the first file that can't
-/// be read, is too long or is no dictionary; then for too many entries. The cost is that of reading each file, of its JSON and
-/// of merging the dictionaries.
+/// Refused where they are too many, and then no file is opened and no memory is asked for; then for the first file that
+/// can't be read, is too long or is no dictionary; then for too many entries. The cost is that of reading each file, of
+/// its JSON and of merging the dictionaries.
 pub fn read_stack<F: Files>(
     alloc: Global,
     files: &mut F,

@@ -74,7 +74,11 @@ impl Model for Dictionary {
 
     ghost view = { λ d. record { entries = d.entries.items; skipped = d.skipped.items; folded = d.folded } };
 
-    ghost invariant = { λ d. IsDictionary (record { entries = d.entries.items; skipped = d.skipped.items; folded = d.folded }) };
+    ghost invariant = { λ d. IsDictionary (record {
+      entries = d.entries.items;
+      skipped = d.skipped.items;
+      folded = d.folded;
+    }) };
 }
 
 impl Dictionary {

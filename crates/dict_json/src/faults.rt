@@ -18,7 +18,8 @@ pub enum DictFault {
     /// The first key by bytes whose value is no text.
     #[error("the value of {key} is no text")]
     NotText { key: Text },
-    /// The first key by bytes that has more parts than an outline has strokes, all readable, with the number of its parts.
+    /// The first key by bytes that has more parts than an outline has strokes, all readable, with the number of its
+    /// parts.
     #[error("{key} has {parts} strokes, more than the 64 of an outline")]
     TooLong { key: Text, parts: u64 },
     #[error("out of memory")]

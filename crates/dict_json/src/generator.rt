@@ -168,8 +168,8 @@ fn object(alloc: Global, start: u64, count: u32) -> Result<String, AllocError>
 
 /// The bytes of the dictionary that is made of a start and a number of entries.
 ///
-/// An entry whose key was already written is left out, so the bytes read as a dictionary without skipped or folded keys.
-/// The cost is linear in the count.
+/// An entry whose key was already written is left out, so the bytes read as a dictionary without skipped or folded
+/// keys. The cost is linear in the count.
 pub fn generated(alloc: Global, start: u64, count: u32) -> Result<Vec<u8>, AllocError>
     requires { count ≤ most_generated }
     ensures bytes { IfOk result (λ bytes. bytes.items ≡ generated_text start count) }

@@ -13,14 +13,15 @@ pub fn limits()
     ensures generated { (MAX_GENERATED ≡ most_generated) × (most_generated ≡ 100000) }
 {}
 
-/// The keys of an object that is read come in order of their bytes, each once. So the first of some of its keys is the least
-/// by bytes, and the last the greatest.
+/// The keys of an object that is read come in order of their bytes, each once. So the first of some of its keys is the
+/// least by bytes, and the last the greatest.
 pub fn keys_in_order()
     ensures { (x : List ℕ) (ms : Members) →
         reading x ≡ Some (object ms) → AreInOrder (names_of ms) }
 {}
 
-/// Of the keys that spell one outline the greatest by bytes stands, and each outline that some key spells is an entry's.
+/// Of the keys that spell one outline the greatest by bytes stands, and each outline that some key spells is an
+/// entry's.
 pub fn greatest_keys_stand()
     ensures { (x : List ℕ) (d : DictionaryView) → IsReadAs x d → IsOfObject x d }
 {}

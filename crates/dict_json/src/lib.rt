@@ -1,9 +1,10 @@
-//! Dictionaries of files: Plover's JSON objects of outlines and texts, read from their bytes, and a generator of such files.
+//! Dictionaries of files: Plover's JSON objects of outlines and texts, read from their bytes, and a generator of such
+//! files.
 //!
-//! [`read_dictionary`] gives the entries of a file, the keys that it skips and the number of keys that it folds, or the first
-//! cause of a refusal. What bytes come to is said of their value by `serde_json` in `specs/Outcomes.antt`. An object of texts
-//! is read by `json`, straight from its tokens, and all else by `serde_json`. [`generated`] makes the bytes of a dictionary
-//! from two numbers.
+//! [`read_dictionary`] gives the entries of a file, the keys that it skips and the number of keys that it folds, or the
+//! first cause of a refusal. What bytes come to is said of their value by `serde_json` in `specs/Outcomes.antt`. An
+//! object of texts is read by `json`, straight from its tokens, and all else by `serde_json`. [`generated`] makes the
+//! bytes of a dictionary from two numbers.
 #![tactic(auto)]
 
 mod dictionaries;

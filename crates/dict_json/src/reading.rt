@@ -105,10 +105,11 @@ fn read_keys(alloc: Global, bytes: &[u8]) -> Result<Keys, DictFault>
 
 /// The dictionary of a file's bytes.
 ///
-/// Refused where the bytes have no reading by `serde_json`; where the value is no object; where some value is no text; and
-/// where some key has more than [`Outline::MAX`](stroke::Outline::MAX) parts, all readable. Of the causes that hold the first one in this order is returned, and of
-/// keys the first by bytes. The cost is that of reading the JSON and of sorting the entries; each text is kept once. An
-/// object of texts is read straight from its tokens, and all else once more as a value.
+/// Refused where the bytes have no reading by `serde_json`; where the value is no object; where some value is no text;
+/// and where some key has more than [`Outline::MAX`](stroke::Outline::MAX) parts, all readable. Of the causes that hold
+/// the first one in this order is returned, and of keys the first by bytes. The cost is that of reading the JSON and of
+/// sorting the entries; each text is kept once. An object of texts is read straight from its tokens, and all else once
+/// more as a value.
 pub fn read_dictionary(alloc: Global, bytes: &[u8]) -> Result<Dictionary, DictFault>
     requires { length bytes.now < 2 ^ 32 }
     ensures ok { IfOk result (λ d. dictionary_outcome bytes.now ≡ dictionary d) }

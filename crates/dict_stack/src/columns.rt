@@ -39,7 +39,8 @@ impl Columns {
         })
     }
 
-    /// Adds a candidate whose outline isn't below any that was added. One with the last outline adds at most that this is a word.
+    /// Adds a candidate whose outline isn't below any that was added. One with the last outline adds at most that this
+    /// is a word.
     fn add(&mut self, candidate: Candidate) -> Result<(), AllocError>
         requires { length self.old.words.items ≡ length self.old.outlines.items }
         ensures adds { OnOk result (Adds self.old candidate self.new) }

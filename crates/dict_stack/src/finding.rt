@@ -6,8 +6,8 @@ ghost use Rattle.dict_stack.specs.Finding.{IsMissing};
 
 use stroke::{Outline, Stroke};
 
-/// The number of the outline with these strokes, in a binary search. `Err` exactly where there is none, with the place at
-/// which it would stand.
+/// The number of the outline with these strokes, in a binary search. `Err` exactly where there is none, with the place
+/// at which it would stand.
 pub fn find_outline(outlines: &[Outline], strokes: &[Stroke]) -> Result<u32, u32>
     requires rising { AreRising outlines.now }
     requires few { length outlines.now < 2 ^ 32 }

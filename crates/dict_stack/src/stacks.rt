@@ -16,11 +16,11 @@ use std::alloc::{AllocError, Global};
 use std::marker::Model;
 use stroke::{Outline, Stroke};
 
-/// Up to [`Stack::MAX_DICTIONARIES`] dictionaries as one: the outlines that some dictionary has, in outline order, each with the translation of the
-/// first dictionary that has it.
+/// Up to [`Stack::MAX_DICTIONARIES`] dictionaries as one: the outlines that some dictionary has, in outline order, each
+/// with the translation of the first dictionary that has it.
 ///
-/// An entry is named by its place among them, its number. Some dictionaries only translate: an entry is a word where some other
-/// dictionary has it.
+/// An entry is named by its place among them, its number. Some dictionaries only translate: an entry is a word where
+/// some other dictionary has it.
 #[derive(Drop)]
 pub struct Stack {
     outlines: Vec<Outline>,
@@ -38,9 +38,23 @@ impl Model for Stack {
 
     ghost Value = { StackView };
 
-    ghost view = { λ s. record { outlines = s.outlines.items; texts = s.texts.items; from = s.from.items; words = s.words.items; skipped = map (λ keys. keys.items) s.skipped.items; folded = s.folded_total } };
+    ghost view = { λ s. record {
+      outlines = s.outlines.items;
+      texts = s.texts.items;
+      from = s.from.items;
+      words = s.words.items;
+      skipped = map (λ keys. keys.items) s.skipped.items;
+      folded = s.folded_total;
+    } };
 
-    ghost invariant = { λ s. IsStack (record { outlines = s.outlines.items; texts = s.texts.items; from = s.from.items; words = s.words.items; skipped = map (λ keys. keys.items) s.skipped.items; folded = s.folded_total })
+    ghost invariant = { λ s. IsStack (record {
+      outlines = s.outlines.items;
+      texts = s.texts.items;
+      from = s.from.items;
+      words = s.words.items;
+      skipped = map (λ keys. keys.items) s.skipped.items;
+      folded = s.folded_total;
+    })
         × (s.skipped_total ≡ sum_by length (map (λ keys. keys.items) s.skipped.items)) };
 }
 
@@ -153,8 +167,8 @@ impl Stack {
         self.words.as_slice()
     }
 
-    /// The strokes of the entries, numbered in order of first appearance. The cost is that of a look-up in a hash table for each
-    /// stroke, so they are numbered only where that is asked.
+    /// The strokes of the entries, numbered in order of first appearance. The cost is that of a look-up in a hash table
+    /// for each stroke, so they are numbered only where that is asked.
     pub fn stroke_numbers(&self, alloc: Global) -> Result<StrokeNumbers, AllocError>
         ensures { IfOk result (λ numbers. numbers ≡ strokes_of_all self.now.outlines) }
     {

@@ -32,8 +32,8 @@ fn stack_of_lines(
     Ok(Stack::new(alloc, dictionaries, word_files))
 }
 
-/// A stack as a text: of each entry its strokes with their numbers, its text, the place of its dictionary and whether it is a
-/// word; then the skipped keys of each dictionary, and the numbers of skipped keys, folded keys and strokes.
+/// A stack as a text: of each entry its strokes with their numbers, its text, the place of its dictionary and whether
+/// it is a word; then the skipped keys of each dictionary, and the numbers of skipped keys, folded keys and strokes.
 fn shown(rt: &impl Abort, alloc: Global, stack: &Stack) -> Result<String, AllocError> {
     let numbers = stack.stroke_numbers(alloc)?;
     let mut text = String::new(alloc);

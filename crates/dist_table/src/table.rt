@@ -18,8 +18,8 @@ use std::marker::Model;
 /// The distance that a relax is given is below this.
 pub const DISTANCES: u32 = 2147483648;
 
-/// A settled word for each number of a graph, which it borrows: how far from the start the number was found, and from where. Each
-/// settled word stands for a real walk at each moment.
+/// A settled word for each number of a graph, which it borrows: how far from the start the number was found, and from
+/// where. Each settled word stands for a real walk at each moment.
 #[derive(Drop)]
 pub struct DistTable<'a, G: StepGraph> {
     table: Table<u8, Knowledge, G, OneHistory, Global>,
@@ -47,8 +47,8 @@ impl<'a, G: StepGraph> Model for DistTable<'a, G> {
 }
 
 impl<'a, G: StepGraph> DistTable<'a, G> {
-    /// A table in which only the start was found, with its first pass, which has seen nothing. `AllocError` where one of
-    /// its two blocks of 8 bytes a number was refused.
+    /// A table in which only the start was found, with its first pass, which has seen nothing. `AllocError` where one
+    /// of its two blocks of 8 bytes a number was refused.
     pub fn new(alloc: Global, graph: &'a G) -> Result<(DistTable<'a, G>, Pass), AllocError>
         ensures origin { IfOk result (λ r. r.0.origin ≡ G.origin graph.now) }
         ensures lists { IfOk result (λ r. r.0.lists ≡ G.lists graph.now) }
@@ -74,10 +74,12 @@ impl<'a, G: StepGraph> DistTable<'a, G> {
         ))
     }
 
-    /// Puts the lesser of the target's settled word and `(distance + 1) * 2^32 + source`, and answers the settled word that stood before.
+    /// Puts the lesser of the target's settled word and `(distance + 1) * 2^32 + source`, and answers the settled word
+    /// that stood before.
     ///
-    /// The target's settled word is loaded, and only where it is greater than this value is it lowered by a fetch-min. The first
-    /// relax from another source also loads that source's settled word. It takes no memory and waits for nobody.
+    /// The target's settled word is loaded, and only where it is greater than this value is it lowered by a fetch-min.
+    /// The first relax from another source also loads that source's settled word. It takes no memory and waits for
+    /// nobody.
     pub fn relax(&self, pass: &mut Pass, target: u32, distance: u32, source: u32) -> u64
         requires pass { pass.old.table ≡ self.now }
         requires below { target < length self.now.lists }
@@ -97,7 +99,7 @@ impl<'a, G: StepGraph> DistTable<'a, G> {
         }
     }
 
-    // The next moves go from this number: a load of its settled word tells with what distance.
+    /// The next moves go from this number: a load of its settled word tells with what distance.
     fn aim(&self, pass: &mut Pass, source: u32)
         requires pass { pass.old.table ≡ self.now }
         requires below { source < length self.now.lists }
@@ -113,8 +115,8 @@ impl<'a, G: StepGraph> DistTable<'a, G> {
         }
     }
 
-    // Where the pass is aimed at the move, a load that finds a settled word which the move can't lower is the relax, and answers
-    // that settled word.
+    /// Where the pass is aimed at the move, a load that finds a settled word which the move can't lower is the relax,
+    /// and answers that settled word.
     fn spare(&self, pass: &mut Pass, target: u32, distance: u32, source: u32) -> Option<u64>
         requires pass { pass.old.table ≡ self.now }
         requires below { target < length self.now.lists }
@@ -150,8 +152,8 @@ impl<'a, G: StepGraph> DistTable<'a, G> {
             .load::<Looked>(&mut pass.seat, state as usize)
     }
 
-    /// A pass for another thread. It has seen as much, and its number was never used before. It takes no memory, and this
-    /// table refuses none.
+    /// A pass for another thread. It has seen as much, and its number was never used before. It takes no memory, and
+    /// this table refuses none.
     pub fn split(&self, pass: &mut Pass) -> Result<Pass, AllocError>
         requires { pass.old.table ≡ self.now }
         ensures same { pass.new ≡ pass.old }
@@ -169,7 +171,8 @@ impl<'a, G: StepGraph> DistTable<'a, G> {
         })
     }
 
-    /// Takes another pass in: afterwards the pass has seen all that either had. It takes no memory and waits for nobody.
+    /// Takes another pass in: afterwards the pass has seen all that either had. It takes no memory and waits for
+    /// nobody.
     pub fn join(&self, pass: &mut Pass, other: Pass)
         requires pass { pass.old.table ≡ self.now }
         requires other { other.table ≡ self.now }
@@ -184,7 +187,8 @@ impl<'a, G: StepGraph> DistTable<'a, G> {
         self.table.shared.load::<Confirmed>(&mut pass.seat, 0);
     }
 
-    /// The settled words, and the end of the table. `AllocError` where the memory for them was refused; then both are gone.
+    /// The settled words, and the end of the table. `AllocError` where the memory for them was refused; then both are
+    /// gone.
     pub fn close(self, pass: Pass) -> Result<Vec<u64>, AllocError>
         requires { pass.table ≡ self }
         ensures { IfOk result (λ words. LeavesWords pass words.items) }
@@ -207,7 +211,7 @@ impl<'a, G: StepGraph> DistTable<'a, G> {
     }
 }
 
-// A copy of the settled words of a table that was closed.
+/// A copy of the settled words of a table that was closed.
 fn words_of(
     alloc: Global,
     closed: &Closed<u8, Global>,

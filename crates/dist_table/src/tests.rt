@@ -9,7 +9,7 @@ use std::marker::Sync;
 use std::test::*;
 use std::thread::{Threads, join_mut};
 
-// Three numbers: 0 leads to 1 and 2, 1 leads to 2.
+/// Three numbers: 0 leads to 1 and 2, 1 leads to 2.
 #[derive(Drop)]
 struct Three;
 
@@ -57,7 +57,7 @@ impl StepGraph for Three {
     }
 }
 
-// The relax by the move from the start to 1.
+/// The relax by the move from the start to 1.
 fn to_one(table: &DistTable<Three>, pass: &mut Pass) -> u64
     requires { IsOfThree table.now pass.old }
     ensures { IsOfThree table.now pass.new }
@@ -65,7 +65,7 @@ fn to_one(table: &DistTable<Three>, pass: &mut Pass) -> u64
     table.relax(pass, 1, 0, 0)
 }
 
-// The relax by the move from the start to 2.
+/// The relax by the move from the start to 2.
 fn to_two(table: &DistTable<Three>, pass: &mut Pass) -> u64
     requires { IsOfThree table.now pass.old }
     ensures { IsOfThree table.now pass.new }
@@ -73,7 +73,7 @@ fn to_two(table: &DistTable<Three>, pass: &mut Pass) -> u64
     table.relax(pass, 2, 0, 0)
 }
 
-// The relax by the move from 1 to 2.
+/// The relax by the move from 1 to 2.
 fn on_to_two(table: &DistTable<Three>, pass: &mut Pass) -> u64
     requires { IsOfThree table.now pass.old }
     ensures { IsOfThree table.now pass.new }
@@ -81,7 +81,7 @@ fn on_to_two(table: &DistTable<Three>, pass: &mut Pass) -> u64
     table.relax(pass, 2, 1, 1)
 }
 
-// The settled words as they are seen.
+/// The settled words as they are seen.
 fn seen(table: &DistTable<Three>, pass: &mut Pass) -> (u64, u64, u64)
     requires { IsOfThree table.now pass.old }
     ensures { IsOfThree table.now pass.new }
@@ -110,7 +110,8 @@ fn each_call_answers_the_word_that_stood(rt: HostRuntime) -> Result<(), Fail> {
     Ok(())
 }
 
-// One thread puts the walk of two moves to 2 while the other puts those of one move. Each looks on what the other does.
+/// One thread puts the walk of two moves to 2 while the other puts those of one move. Each looks on what the other
+/// does.
 fn lower_beside(
     rt: &(impl Threads + Sync),
     table: &DistTable<Three>,
@@ -140,7 +141,7 @@ fn lower_beside(
     join_mut(rt, &mut far, &mut near);
 }
 
-// The settled words that two threads leave.
+/// The settled words that two threads leave.
 fn words_of_two(rt: &(impl Threads + Sync), alloc: Global) -> Result<Vec<u64>, AllocError> {
     let graph = Three;
     let (table, mut pass) = DistTable::new(alloc, &graph)?;

@@ -19,18 +19,21 @@ impl Model for Block {
 }
 
 impl Block {
+    /// A block of so many cells from this place on.
     pub(crate) fn new(place: u32, len: u32) -> Block
         ensures { result ≡ record { place = place; len = len } }
     {
         Block { place, len }
     }
 
+    /// Its first cell.
     pub(crate) fn place(&self) -> u32
         ensures { result ≡ self.now.place }
     {
         self.place
     }
 
+    /// How many cells it has.
     pub(crate) fn len(&self) -> u32
         ensures { result ≡ self.now.len }
     {

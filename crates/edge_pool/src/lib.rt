@@ -1,10 +1,10 @@
 //! A region of cells that is cut into blocks: the rows of a tree's edges.
 //!
 //! A tree keeps a short sorted row of edges at each of its nodes. A vector a node would ask the allocator a hundred
-//! thousand times and leave as many holes. Here all memory is asked for once, and a row is a block of 1, 2, 4 .. cells of
-//! one region. A block that is given back serves the next row of its class: segregated free lists, as in Knuth, The Art of
-//! Computer Programming, volume 1, section 2.5. A free block holds the place of the next one in its own first cell, so the
-//! lists take no memory of their own. Blocks are never joined or split.
+//! thousand times and leave as many holes. Here all memory is asked for once, and a row is a block of 1, 2, 4 .. cells
+//! of one region. A block that is given back serves the next row of its class: segregated free lists, as in Knuth, The
+//! Art of Computer Programming, volume 1, section 2.5. A free block holds the place of the next one in its own first
+//! cell, so the lists take no memory of their own. Blocks are never joined or split.
 //!
 //! `take` and `give` take the time of clearing the block, `read` and `write` a constant one.
 #![tactic(auto)]

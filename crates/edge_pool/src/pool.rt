@@ -21,9 +21,9 @@ pub enum PoolFault {
     Full,
 }
 
-/// Cells, each a pair of numbers, cut into blocks of 1, 2, 4 .. of them. The class of a length is the least power of two
-/// that isn't below it. A pool is seen as its live blocks, its number of uncut cells, and its number of free blocks of each
-/// class; its blocks are disjoint.
+/// Cells, each a pair of numbers, cut into blocks of 1, 2, 4 .. of them. The class of a length is the least power of
+/// two that isn't below it. A pool is seen as its live blocks, its number of uncut cells, and its number of free blocks
+/// of each class; its blocks are disjoint.
 #[derive(Drop)]
 pub struct EdgePool {
     cells: Vec<(u32, u32)>,
@@ -42,7 +42,11 @@ impl Model for EdgePool {
 
     ghost coded = { pool_code };
 
-    ghost view = { λ p. record { live = contents p.cells.items p.cuts.items; uncut = length p.cells.items - p.cut; spare = p.spare } };
+    ghost view = { λ p. record {
+      live = contents p.cells.items p.cuts.items;
+      uncut = length p.cells.items - p.cut;
+      spare = p.spare;
+    } };
 
     ghost invariant = { λ p. AreSound p.cells.items p.heads p.spare p.cut p.cuts.items };
 }
@@ -170,8 +174,8 @@ impl EdgePool {
         });
     }
 
-    /// Makes a block longer: its pairs, and then pairs (0, 0). Where the longer block has the same class it stays in its
-    /// place, else it is copied, and the old one is free.
+    /// Makes a block longer: its pairs, and then pairs (0, 0). Where the longer block has the same class it stays in
+    /// its place, else it is copied, and the old one is free.
     pub fn grow(&mut self, block: Block, len: u32) -> Result<Block, (Block, PoolFault)>
         requires listed { ListsBlock self.old block }
         requires longer { block.len ≤ len }

@@ -8,8 +8,8 @@ ghost use Rattle.free_parse.specs.inside.Forks.{IfNodesFork, fork_if, open_in_pa
 
 use crate::graph::FreeGraph;
 
-/// Where two readings of the same strokes are: the node of their open word, or of the longer one and of the shorter one where
-/// they have differed.
+/// Where two readings of the same strokes are: the node of their open word, or of the longer one and of the shorter one
+/// where they have differed.
 #[derive(Clone, Copy, Debug, PartialEq, Eq)]
 pub(crate) struct NodeFork {
     pub(crate) longer: u32,

@@ -26,8 +26,8 @@ use std::marker::Model;
 
 /// The graph of the forks over the entries of a trie and some words among them. It borrows the trie and the words.
 ///
-/// Each node of d strokes has d + 1 numbers, in the order of nodes: for the fork at which both readings have it open, and for those
-/// of it and each shorter end of it. The end has the last number, and the start has 0.
+/// Each node of d strokes has d + 1 numbers, in the order of nodes: for the fork at which both readings have it open,
+/// and for those of it and each shorter end of it. The end has the last number, and the start has 0.
 #[derive(Drop)]
 pub struct FreeGraph<'a> {
     trie: &'a Trie,
@@ -47,7 +47,8 @@ impl<'a> Model for FreeGraph<'a> {
 }
 
 impl<'a> FreeGraph<'a> {
-    /// Whether the forks over a trie have few enough numbers, at most 33,554,432. They have where states can be numbered.
+    /// Whether the forks over a trie have few enough numbers, at most 33,554,432. They have where states can be
+    /// numbered.
     pub fn fits(trie: &Trie) -> bool
         ensures { IsTrue result ↔ (fork_count trie.now ≤ most_numbers) }
     {

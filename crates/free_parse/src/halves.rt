@@ -49,8 +49,8 @@ impl NumberedHalves {
         }
     }
 
-    /// One of two readings has ended its word: the one with the shorter open word, or the one with the longer, and then the other
-    /// is the longer.
+    /// One of two readings has ended its word: the one with the shorter open word, or the one with the longer, and then
+    /// the other is the longer.
     fn end_one(
         &mut self,
         graph: &FreeGraph<'_>,

@@ -126,11 +126,11 @@ fn parse_page(
     Ok(page)
 }
 
-/// Puts how many entries, reached numbers and rounds there are, and whether the words are free; where they aren't, how many
-/// strokes the two readings have, and the words of both.
+/// Puts how many entries, reached numbers and rounds there are, and whether the words are free; where they aren't, how
+/// many strokes the two readings have, and the words of both.
 ///
-/// It fails where the sink does and where memory is refused, and then a prefix of the text was put. The text is made whole
-/// before it is put. The cost is linear in it.
+/// It fails where the sink does and where memory is refused, and then a prefix of the text was put. The text is made
+/// whole before it is put. The cost is linear in it.
 pub fn write_parse<S: Sink>(
     alloc: Global,
     sink: &mut S,

@@ -1,5 +1,5 @@
-//! Small sets of words by their whole texts, and random ones, whose fewest strokes are counted by trying all short lists of
-//! strokes.
+//! Small sets of words by their whole texts, and random ones, whose fewest strokes are counted by trying all short
+//! lists of strokes.
 ghost use Rattle.std.specs.Prelude.{◌≡◌};
 ghost use Rattle.steno_rules.specs.WordSets.{IsWordSet};
 

@@ -62,8 +62,8 @@ fn read(
 /// Two readings of fewest strokes, from the settled words of the graph. None exactly where the words are free: where no
 /// strokes can be read as words in two ways.
 ///
-/// The walk to the end by the settled words decides which ones they are. It takes memory for that walk and for the words, and a
-/// few look-ups for each stroke.
+/// The walk to the end by the settled words decides which ones they are. It takes memory for that walk and for the
+/// words, and a few look-ups for each stroke.
 pub fn readings(
     alloc: Global,
     graph: &FreeGraph<'_>,

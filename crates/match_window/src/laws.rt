@@ -4,9 +4,10 @@ ghost use Rattle.outline_trie.specs.Tries.{node_strokes, child_of};
 ghost use Rattle.match_window.specs.Ends.{IsEndOf, next_window};
 ghost use Rattle.match_window.specs.inside.Rows.{IsNodeOf};
 
-/// Along the chain of shorter ends the first node with a child by a stroke leads to the window. Where a node has that child,
-/// it is the window of the node's strokes and the stroke; where it has none, the shorter end has the same window; and the
-/// window is empty where no node of the chain has a child. The ends get shorter, and a window grows by at most the stroke.
+/// Along the chain of shorter ends the first node with a child by a stroke leads to the window. Where a node has that
+/// child, it is the window of the node's strokes and the stroke; where it has none, the shorter end has the same
+/// window; and the window is empty where no node of the chain has a child. The ends get shorter, and a window grows by
+/// at most the stroke.
 pub fn chains_of_ends()
     ensures child { (entries : List (List ℕ)) (node code child : ℕ) →
         child_of entries node code ≡ Some child →

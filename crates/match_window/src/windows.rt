@@ -46,7 +46,8 @@ impl<'a> Model for Windows<'a> {
 }
 
 impl Windows<'_> {
-    /// The windows of this trie's nodes, 12 bytes a node, in time linear in the nodes times the length of their chains of ends.
+    /// The windows of this trie's nodes, 12 bytes a node, in time linear in the nodes times the length of their chains
+    /// of ends.
     pub fn new(alloc: Global, trie: &Trie) -> Result<Windows<'_>, AllocError>
         ensures { IfOk result (λ windows. windows ≡ trie.now) }
     {
@@ -85,8 +86,8 @@ impl Windows<'_> {
         }
     }
 
-    /// The window after one more stroke, and the last piece then. One look-up for each end of the window at which an entry
-    /// could begin.
+    /// The window after one more stroke, and the last piece then. One look-up for each end of the window at which an
+    /// entry could begin.
     pub fn advance(&self, node: u32, stroke: Stroke) -> Advance
         requires { IsNode self.now node }
         ensures node { IsNode self.now result.node }
@@ -102,8 +103,8 @@ impl Windows<'_> {
         }
     }
 
-    /// The longest shorter end of a node's strokes that starts where a piece starts and is a node: where a stroke is looked
-    /// for next that doesn't follow the node itself. The root where there is none.
+    /// The longest shorter end of a node's strokes that starts where a piece starts and is a node: where a stroke is
+    /// looked for next that doesn't follow the node itself. The root where there is none.
     pub fn shorter_end(&self, node: u32) -> u32
         requires { IsNode self.now node }
         ensures node { IsNode self.now result }
@@ -113,8 +114,8 @@ impl Windows<'_> {
         self.columns.shorter[node as usize]
     }
 
-    /// The node of a node's last stroke alone, None for the root and where no entry begins with that stroke. It is kept, so
-    /// nothing is looked up.
+    /// The node of a node's last stroke alone, None for the root and where no entry begins with that stroke. It is
+    /// kept, so nothing is looked up.
     pub fn alone(&self, node: u32) -> Option<u32>
         requires { IsNode self.now node }
         ensures { result ≡ suffix_of self.now node 1 }

@@ -1,10 +1,10 @@
 //! A finite set of outlines as a tree of strokes, so that what an outline continues to is found stroke by stroke.
 //!
-//! A translator asks of a run of strokes whether some entry begins with it, and which entry it is. Each distinct beginning
-//! of an entry is a node; its number is its place among all of them in outline order, so numbers mean the same to whoever
-//! has the entries. A trie (Fredkin, Trie memory, 1960) over the sorted entries is built in time linear in their strokes:
-//! consecutive entries have a beginning in common, and each stroke after it makes a node. A node's children stand in a
-//! row sorted by stroke, all rows in one pool of cells, and a look-up is a binary search in a row.
+//! A translator asks of a run of strokes whether some entry begins with it, and which entry it is. Each distinct
+//! beginning of an entry is a node; its number is its place among all of them in outline order, so numbers mean the
+//! same to whoever has the entries. A trie (Fredkin, Trie memory, 1960) over the sorted entries is built in time linear
+//! in their strokes: consecutive entries have a beginning in common, and each stroke after it makes a node. A node's
+//! children stand in a row sorted by stroke, all rows in one pool of cells, and a look-up is a binary search in a row.
 //!
 //! A node takes 17 bytes and 8 more if it has children, a cell of a row 8.
 #![tactic(auto)]

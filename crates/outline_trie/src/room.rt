@@ -1,5 +1,5 @@
-//! The room that the rows need. It is counted and taken whole before the first row is made, so that from then on no call
-//! of the building can be refused.
+//! The room that the rows need. It is counted and taken whole before the first row is made, so that from then on no
+//! call of the building can be refused.
 ghost use Rattle.std.specs.Prelude.{ℕ, ◌≡◌, ◌+◌, ◌*◌, ◌<◌, ◌≤◌, ◌++◌, ◌∷◌, [], sum, length, get_or, vec_capacity, IfOk};
 ghost use Rattle.edge_pool.specs.Classes.{class_count};
 ghost use Rattle.outline_trie.specs.Tries.{most_nodes};

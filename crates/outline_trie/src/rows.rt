@@ -11,8 +11,8 @@ use std::alloc::{AllocError, Global};
 use std::marker::Model;
 use stroke::Stroke;
 
-/// For each node the row of its children, seen as the list of the rows. A row is a block of the pool, and a node without
-/// children has none.
+/// For each node the row of its children, seen as the list of the rows. A row is a block of the pool, and a node
+/// without children has none.
 #[derive(Drop)]
 pub(crate) struct Rows {
     pool: EdgePool,

@@ -1,5 +1,5 @@
-//! The columns of the nodes, a place of each column for each node. The entries come in order, so a node is made when its
-//! strokes are met first, and the numbers of nodes are those of outline order.
+//! The columns of the nodes, a place of each column for each node. The entries come in order, so a node is made when
+//! its strokes are met first, and the numbers of nodes are those of outline order.
 ghost use Rattle.std.specs.Prelude.{ℕ, ◌≡◌, ◌+◌, ◌-◌, ◌<◌, ◌≤◌, ◌++◌, ◌∷◌, [], ◌^◌, length, take, vec_capacity, All, IfOk};
 ghost use Rattle.steno_rules.specs.Outlines.{AreEntries, outline_of};
 ghost use Rattle.steno_rules.specs.Nodes.{nodes};
@@ -103,8 +103,8 @@ impl Table {
         self.numbers[node as usize] = number as u32;
     }
 
-    /// The nodes of an entry's strokes from `from` on, each below the one before, and the first below `top`. The last of
-    /// them, which is the entry.
+    /// The nodes of an entry's strokes from `from` on, each below the one before, and the first below `top`. The last
+    /// of them, which is the entry.
     fn extend(&mut self, entries: &[Outline], number: usize, from: usize, top: u32) -> u32
         requires entries { AreEntries entries.now }
         requires number { number < length entries.now }

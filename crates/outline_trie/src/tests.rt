@@ -23,6 +23,7 @@ fn outline_of_codes(rt: &impl Abort, alloc: Global, codes: &[u32]) -> Outline {
     outline
 }
 
+/// The trie of these outlines, which are entries.
 fn trie_of(rt: &impl Abort, alloc: Global, outlines: &[Outline]) -> Result<Trie, TrieFault> {
     if outlines.len() < 1 << 31 && are_entries(outlines) {
         Trie::new(alloc, outlines)
@@ -63,6 +64,7 @@ fn step<L: Ledger>(trie: &Trie, node: u32, stroke: Stroke, blank: Blank) -> Opti
     trie.child_step(node, stroke, &mut steps)
 }
 
+/// A child that is looked up by a step that is counted.
 fn counted_child(trie: &Trie, node: u32, stroke: Stroke) -> Option<u32>
     requires { IsNode trie.now node }
 {

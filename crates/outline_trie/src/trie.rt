@@ -35,7 +35,8 @@ impl From<AllocError> for TrieFault {
     }
 }
 
-/// The distinct beginnings of the entries, numbered in outline order from 0, the empty one. Seen as the list of the entries.
+/// The distinct beginnings of the entries, numbered in outline order from 0, the empty one. Seen as the list of the
+/// entries.
 #[derive(Drop)]
 pub struct Trie {
     parents: Vec<u32>,
@@ -55,7 +56,9 @@ impl Model for Trie {
 
     ghost view = { λ t. reverse t.entries.items };
 
-    ghost invariant = { λ t. IsTrie (reverse t.entries.items) t.parents.items t.strokes.items t.depths.items t.numbers.items t.rows t.longest };
+    ghost invariant = { λ t.
+        IsTrie (reverse t.entries.items)
+        t.parents.items t.strokes.items t.depths.items t.numbers.items t.rows t.longest };
 }
 
 impl Trie {

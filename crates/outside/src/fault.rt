@@ -1,5 +1,5 @@
-//! Why a call that reaches outside was refused. A device that fails and memory that is wanted are told apart everywhere,
-//! since only the first is the fault of a file.
+//! Why a call that reaches outside was refused. A device that fails and memory that is wanted are told apart
+//! everywhere, since only the first is the fault of a file.
 
 ghost use Rattle.std.specs.Prelude.{◌≡◌};
 ghost use Rattle.outside.specs.declared.fault.OutsideFault.TheVariants.{Memory};

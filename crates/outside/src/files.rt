@@ -9,15 +9,15 @@ use crate::{Failed, OutsideFault, Way};
 
 /// Files by name, of which one may be open for reading and one for writing.
 ///
-/// Contracts see six things: the files' bytes and the rest of the one that is being read, where the object tells them; the
-/// name last opened and the name that is being written; the place of the latest fault; and the count of faults. The count
-/// never falls. A call that answers `Failed` has raised it, or has found it at its last value 2^64 - 1, where it stays. No
-/// other call changes it.
+/// Contracts see six things: the files' bytes and the rest of the one that is being read, where the object tells them;
+/// the name last opened and the name that is being written; the place of the latest fault; and the count of faults. The
+/// count never falls. A call that answers `Failed` has raised it, or has found it at its last value 2^64 - 1, where it
+/// stays. No other call changes it.
 pub trait Files {
     ghost view: { Self → FilesView };
 
-    /// Opens a file for reading: its bytes become the rest. A refusal leaves an empty rest. No file changes, and the name
-    /// becomes the one last opened unless memory is wanted.
+    /// Opens a file for reading: its bytes become the rest. A refusal leaves an empty rest. No file changes, and the
+    /// name becomes the one last opened unless memory is wanted.
     fn open_file(&mut self, name: &str) -> Result<(), OutsideFault>
         ensures held { (view self.new).held ≡ (view self.old).held }
         ensures writing { (view self.new).writing ≡ (view self.old).writing }
@@ -32,8 +32,8 @@ pub trait Files {
             Rose (view self.old).faults (view self.new).faults }
         ensures steady { Steady (is_failed result) (view self.old).faults (view self.new).faults };
 
-    /// Moves the first bytes of the rest to the front of the slice, and answers how many: for a slice that isn't empty, 0
-    /// exactly at the end. A refusal moves none, and comes only after a name was opened.
+    /// Moves the first bytes of the rest to the front of the slice, and answers how many: for a slice that isn't empty,
+    /// 0 exactly at the end. A refusal moves none, and comes only after a name was opened.
     fn take(&mut self, into: &mut [u8]) -> Result<usize, Failed>
         ensures leaves { LeavesAll (view self.old) (view self.new) }
         ensures bound { IfOk result (λ n. n ≤ length into.new) }
@@ -51,8 +51,8 @@ pub trait Files {
         ensures failed { OnErr result (Rose (view self.old).faults (view self.new).faults) }
         ensures steady { Steady (is_err result) (view self.old).faults (view self.new).faults };
 
-    /// Begins to write a file, which becomes empty. After a refusal all files are as they were and none is being written.
-    /// The rest is empty afterwards in each case.
+    /// Begins to write a file, which becomes empty. After a refusal all files are as they were and none is being
+    /// written. The rest is empty afterwards in each case.
     fn begin(&mut self, name: &str) -> Result<(), OutsideFault>
         ensures emptied { OnOk result
             (Both (Replaces name.now []) (view self.old).held (view self.new).held) }
@@ -67,8 +67,8 @@ pub trait Files {
             Rose (view self.old).faults (view self.new).faults }
         ensures steady { Steady (is_failed result) (view self.old).faults (view self.new).faults };
 
-    /// Adds the first bytes of the piece to the file that is being written, and answers how many: at least 1. A refusal adds
-    /// none.
+    /// Adds the first bytes of the piece to the file that is being written, and answers how many: at least 1. A refusal
+    /// adds none.
     fn put(&mut self, piece: &[u8]) -> Result<usize, OutsideFault>
         requires writes { IsSome (view self.old).writing }
         requires has_bytes { 0 < length piece.now }

@@ -1,5 +1,5 @@
-//! Which names an object of files was given, and where its latest fault was: what `take` and `end` need so that they can
-//! note a fault without memory.
+//! Which names an object of files was given, and where its latest fault was: what `take` and `end` need so that they
+//! can note a fault without memory.
 
 ghost use Rattle.std.specs.Prelude.{◌≡◌, ◌≤◌, None, Some, OnOk, OnErr, option_map, IsSome, is_some};
 ghost use Rattle.outside.specs.Places.{no_places, raised};
@@ -42,6 +42,7 @@ impl Model for Places {
 }
 
 impl Places {
+    /// No name was given yet.
     pub(crate) fn new(alloc: Global) -> Self
         ensures { result ≡ no_places }
     {
@@ -78,6 +79,7 @@ impl Places {
         Ok(())
     }
 
+    /// No name is being written any more.
     pub(crate) fn end(&mut self)
         ensures { self.new ≡ record self.old { writing = None } }
     {
@@ -114,6 +116,7 @@ impl Places {
         self.faults = self.faults.saturating_add(1);
     }
 
+    /// Whether a name was opened.
     pub(crate) fn has_opened(&self) -> bool
         ensures { result ≡ is_some self.now.opened }
     {

@@ -7,7 +7,8 @@ ghost use Rattle.outside.specs.Files.{LeavesFiles, FaultAt, IsLastOpened};
 use crate::{Files, OutsideFault, ReadFault, Way};
 use std::alloc::{AllocError, Global};
 
-/// The bytes that are asked of a file at once: few calls of the system for a long file, and little memory for a short one.
+/// The bytes that are asked of a file at once: few calls of the system for a long file, and little memory for a short
+/// one.
 const PIECE: usize = 65536;
 
 /// Room for one piece.
@@ -19,9 +20,9 @@ fn piece_buffer(alloc: Global) -> Result<Vec<u8>, AllocError>
 
 /// The bytes of the named file, of which there may be at most `limit`.
 ///
-/// `TooLong` comes only where the file has more, `Failed` only with a fault on reading this name in this call. Each turn
-/// reads one piece of up to 64 KiB, and the list grows by doubling, so the cost is linear in the file's length. There are at
-/// most `limit + 2` turns whatever the files give.
+/// `TooLong` comes only where the file has more, `Failed` only with a fault on reading this name in this call. Each
+/// turn reads one piece of up to 64 KiB, and the list grows by doubling, so the cost is linear in the file's length.
+/// There are at most `limit + 2` turns whatever the files give.
 pub fn read_all<F: Files>(
     alloc: Global,
     files: &mut F,

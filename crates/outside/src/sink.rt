@@ -7,9 +7,9 @@ ghost use Rattle.outside.specs.Faults.{Rose, Steady, is_failed};
 
 use crate::OutsideFault;
 
-/// An output. Contracts see the text put so far, where the object tells it, and the count of faults, which never falls. A call
-/// that answers `Failed` has raised the count, or has found it at its last value 2^64 - 1, where it stays. No other call
-/// changes it.
+/// An output. Contracts see the text put so far, where the object tells it, and the count of faults, which never falls.
+/// A call that answers `Failed` has raised the count, or has found it at its last value 2^64 - 1, where it stays. No
+/// other call changes it.
 pub trait Sink {
     ghost text: { Self → Option (List ℕ) };
 

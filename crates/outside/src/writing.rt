@@ -20,8 +20,8 @@ pub fn write_all<S: Sink>(sink: &mut S, bytes: &[u8]) -> Result<(), OutsideFault
     Ok(())
 }
 
-/// Adds all bytes to the file that is being written. After a refusal a prefix of them was added, and how long it is isn't
-/// told. `Failed` comes only with a fault on writing this file in this call.
+/// Adds all bytes to the file that is being written. After a refusal a prefix of them was added, and how long it is
+/// isn't told. `Failed` comes only with a fault on writing this file in this call.
 pub fn write_all_file<F: Files>(files: &mut F, bytes: &[u8]) -> Result<(), OutsideFault>
     requires { IsSome (F.view files.old).writing }
     ensures all { let before = F.view files.old in

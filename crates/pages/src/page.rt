@@ -16,7 +16,8 @@ pub fn new_page(alloc: Global) -> Result<Vec<u8>, AllocError>
     Vec::with_capacity(alloc, 2 * PAGE)
 }
 
-/// Puts the page where it is full, and empties it. A page below 65,536 bytes is left as it is, without a call of the sink.
+/// Puts the page where it is full, and empties it. A page below 65,536 bytes is left as it is, without a call of the
+/// sink.
 pub fn put_full<S: Sink>(sink: &mut S, page: &mut Vec<u8>) -> Result<(), OutsideFault>
     ensures { let before = progress (S.text sink.old) (S.faults sink.old) page.old.items in
         let after = progress (S.text sink.new) (S.faults sink.new) page.new.items in

@@ -1,7 +1,7 @@
 //! Slots for the pairs of an entry and an inner place of it, in one list.
 //!
-//! Where something is kept for each pair, it stands in the pair's slot: those of an entry follow those of the entries before
-//! it. [`starts_of`] says where the slots of each entry begin, so a pair's slot is found by one look-up:
+//! Where something is kept for each pair, it stands in the pair's slot: those of an entry follow those of the entries
+//! before it. [`starts_of`] says where the slots of each entry begin, so a pair's slot is found by one look-up:
 //! `starts[entry] + place - 1`.
 #![tactic(auto)]
 

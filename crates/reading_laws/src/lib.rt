@@ -1,9 +1,9 @@
-//! The laws of two readings: whether the strokes of words can be read as words in one way only, and if not, which strokes are
-//! the fewest that can be read in two ways.
+//! The laws of two readings: whether the strokes of words can be read as words in one way only, and if not, which
+//! strokes are the fewest that can be read in two ways.
 //!
 //! Each function here has an empty body, and its contract is a law, over every list of entries and every list of words
-//! among them. The definitions are those of `steno_rules`, of `graph_rules` and of this crate's specs/; docs/DEFINITIONS.md
-//! tells them and these laws in plain words.
+//! among them. The definitions are those of `steno_rules`, of `graph_rules` and of this crate's specs/;
+//! docs/DEFINITIONS.md tells them and these laws in plain words.
 #![tactic(auto)]
 
 ghost use Rattle.std.specs.Prelude.{◌≡◌, ◌≢◌, ◌/◌, ◌<◌, ◌≤◌, ◌↔◌, ◌⊎◌, true, AllPairs, flat_map, map, Contains, ℕ, List, length, slice_index};
@@ -31,8 +31,8 @@ pub fn fork_walks()
         AreWords entries words → IsLeastTwo words n ↔ IsLeastEnd words n }
 {}
 
-/// The list of a fork's targets has its moves and nothing else, whichever strokes it is made from, as long as they rise and
-/// have each stroke of a move.
+/// The list of a fork's targets has its moves and nothing else, whichever strokes it is made from, as long as they rise
+/// and have each stroke of a move.
 pub fn fork_moves()
     ensures are { (words : List (List ℕ)) (s t : Fork) → Contains (fork_targets words s) t ↔
         ((has_open_words words s ≡ true) × ((c : ℕ) × Contains (fork_targets_by words s c) t)) }
@@ -59,9 +59,9 @@ pub fn fork_graph()
         (fork_count entries ≡ 2) ⊎ (fork_count entries ≤ number_count entries) }
 {}
 
-/// With the settled words at hand: the words are free where the end isn't reached; else the high half of its word is the
-/// fewest strokes of two readings, and the walk to the end, back by the settled words, spells two of just so many, of which the
-/// first one comes first.
+/// With the settled words at hand: the words are free where the end isn't reached; else the high half of its word is
+/// the fewest strokes of two readings, and the walk to the end, back by the settled words, spells two of just so many,
+/// of which the first one comes first.
 pub fn chosen_readings()
     ensures free { (entries words : List (List ℕ)) (table : List ℕ) → AreWords entries words →
         fork_count entries < word_half → AreSettled 0 (fork_lists entries words) table →

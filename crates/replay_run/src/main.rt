@@ -1,5 +1,5 @@
-//! The program once more, for a stored run of another status: a replay over two dictionaries, of which the first has the higher
-//! priority.
+//! The program once more, for a stored run of another status: a replay over two dictionaries, of which the first has
+//! the higher priority.
 #![tactic(auto)]
 
 use audit_top::run_program;

@@ -36,10 +36,11 @@ fn texts_of(alloc: Global, outlines: &[Outline]) -> Result<Texts, AllocError>
     Ok(Texts { text, ends })
 }
 
-/// The longest entry that the strokes begin with, along the chain of entries that each begin the one before, from `from` on.
+/// The longest entry that the strokes begin with, along the chain of entries that each begin the one before, from
+/// `from` on.
 ///
-/// Entries are in outline order. So each entry that begins the strokes also begins the last entry that isn't behind them, and
-/// it is found on that entry's chain.
+/// Entries are in outline order. So each entry that begins the strokes also begins the last entry that isn't behind
+/// them, and it is found on that entry's chain.
 fn along(
     outlines: &[Outline],
     shorter: &[Option<u32>],

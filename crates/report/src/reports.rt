@@ -155,8 +155,8 @@ fn head_page(
     Ok(page)
 }
 
-/// Puts a report of pairs: seven counts, the last of which has the name `many`, the skipped keys, and three lines a row, the
-/// first of which begins with the name `one`.
+/// Puts a report of pairs: seven counts, the last of which has the name `many`, the skipped keys, and three lines a
+/// row, the first of which begins with the name `one`.
 fn write_pairs<S: Sink>(
     alloc: Global,
     sink: &mut S,
@@ -179,8 +179,8 @@ fn write_pairs<S: Sink>(
 
 /// Puts the report: seven counts, the skipped keys, and three lines a conflict.
 ///
-/// The time follows the text, the strokes of the entries and, for each piece of what is shown, one binary search among the
-/// entries. The text is put in pieces of 65,536 bytes and more, so only the last of them is held.
+/// The time follows the text, the strokes of the entries and, for each piece of what is shown, one binary search among
+/// the entries. The text is put in pieces of 65,536 bytes and more, so only the last of them is held.
 pub fn write_report<S: Sink>(
     alloc: Global,
     sink: &mut S,
@@ -205,8 +205,8 @@ pub fn write_report<S: Sink>(
     )
 }
 
-/// Puts the report of the pairs that stay, as [`write_report`] does with conflicts; `settled` stands in place of the words
-/// `conflicts` and `conflict`.
+/// Puts the report of the pairs that stay, as [`write_report`] does with conflicts; `settled` stands in place of the
+/// words `conflicts` and `conflict`.
 pub fn write_settled<S: Sink>(
     alloc: Global,
     sink: &mut S,

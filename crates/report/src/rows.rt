@@ -1,5 +1,5 @@
-//! The lines of rows. Those of an audit's conflicts are written here, and so are rows of other kinds of pairs, whose first
-//! line begins with another name.
+//! The lines of rows. Those of an audit's conflicts are written here, and so are rows of other kinds of pairs, whose
+//! first line begins with another name.
 
 ghost use Rattle.std.specs.Prelude.{◌≡◌, ◌<◌, ◌++◌, All, IfSome, OnOk, length};
 ghost use Rattle.steno_rules.specs.Conflicts.{AreEntryNumbers, joined_strokes};

@@ -6,8 +6,8 @@ ghost use Rattle.round_core.specs.Machines.{all_free, is_busy, is_free, moves_in
 use crate::step_graph::StepGraph;
 use std::alloc::{AllocError, Global};
 
-/// A batch in hand: the number whose targets are left in the cursor, where the next one stands in the frontier, and how many
-/// more the batch has.
+/// A batch in hand: the number whose targets are left in the cursor, where the next one stands in the frontier, and how
+/// many more the batch has.
 #[derive(Drop)]
 pub(crate) struct Hand<C: Drop> {
     pub(crate) state: u32,

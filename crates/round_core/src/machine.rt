@@ -1,5 +1,5 @@
-//! The round machine. It is driven by events from outside, so that each order in which workers could search is one of its
-//! schedules.
+//! The round machine. It is driven by events from outside, so that each order in which workers could search is one of
+//! its schedules.
 ghost use Rattle.std.specs.Prelude.{◌≡◌, ◌≤◌, ◌<◌, length, slice_index, true, IfOk};
 ghost use Rattle.graph_rules.specs.Graphs.{Stands};
 ghost use Rattle.round_core.specs.Machines.{is_enabled, opening};
@@ -18,8 +18,8 @@ use std::mem;
 
 /// The round machine over a graph, which it borrows.
 ///
-/// All its memory is taken when it is made: for each number its settled word, a place in the frontier, one among the noted and a flag
-/// of a batch, and for each worker a hand.
+/// All its memory is taken when it is made: for each number its settled word, a place in the frontier, one among the
+/// noted and a flag of a batch, and for each worker a hand.
 #[derive(Drop)]
 pub struct RoundState<'a, G: StepGraph> {
     graph: &'a G,
@@ -44,12 +44,15 @@ impl<'a, G: StepGraph> Model for RoundState<'a, G> {
     ghost view = { λ s. record {
       origin = G.origin s.graph.now;
       lists = G.lists s.graph.now;
-      now = machine_of (G.left s.graph.now) (G.lists s.graph.now) s.words.items s.front.items s.closed s.begun s.noted.items s.size s.untaken.items s.hands.items;
+      now = machine_of (G.left s.graph.now) (G.lists s.graph.now)
+          s.words.items s.front.items s.closed s.begun s.noted.items s.size s.untaken.items s.hands.items;
     } };
 
     ghost invariant = { λ s. record {
       graph : IsGraph (G.origin s.graph.now) (G.lists s.graph.now);
-      reached : IsReached (G.origin s.graph.now) (G.lists s.graph.now) (machine_of (G.left s.graph.now) (G.lists s.graph.now) s.words.items s.front.items s.closed s.begun s.noted.items s.size s.untaken.items s.hands.items);
+      reached : IsReached (G.origin s.graph.now) (G.lists s.graph.now)
+          (machine_of (G.left s.graph.now) (G.lists s.graph.now)
+          s.words.items s.front.items s.closed s.begun s.noted.items s.size s.untaken.items s.hands.items);
       owned : Owned (G.owns s.graph.now) s.hands.items;
       front : length (G.lists s.graph.now) ≤ vec_capacity s.front;
       noted : length (G.lists s.graph.now) ≤ vec_capacity s.noted;
@@ -60,8 +63,8 @@ impl<'a, G: StepGraph> Model for RoundState<'a, G> {
 impl<'a, G: StepGraph> RoundState<'a, G> {
     ghost use Rattle.round_core.specs.declared.event.Event.TheVariants.{Begin, Take, Relax, Close};
 
-    /// The machine as it opens, for 1 to 32 workers: the frontier is the start, and no round is begun. `AllocError` where the
-    /// memory for its numbers was refused.
+    /// The machine as it opens, for 1 to 32 workers: the frontier is the start, and no round is begun. `AllocError`
+    /// where the memory for its numbers was refused.
     pub fn new(alloc: Global, graph: &'a G, workers: u32) -> Result<RoundState<'a, G>, AllocError>
         requires { (1 ≤ workers) × (workers ≤ 32) }
         ensures { IfOk result (λ s. s ≡ record {
@@ -110,8 +113,8 @@ impl<'a, G: StepGraph> RoundState<'a, G> {
 
     /// Does an event where it is enabled. False exactly where it isn't, and then nothing changes. It takes no memory.
     ///
-    /// `Begin` and `Close` cost time for each number of the frontier, `Take` is constant, and all `Relax` of a round together
-    /// cost time for each number and each target of its frontier.
+    /// `Begin` and `Close` cost time for each number of the frontier, `Take` is constant, and all `Relax` of a round
+    /// together cost time for each number and each target of its frontier.
     pub fn step(&mut self, event: Event) -> bool
         ensures enabled { result ≡ is_enabled self.old.now event }
         ensures done { self.new ≡ stepped self.old event }
@@ -128,6 +131,7 @@ impl<'a, G: StepGraph> RoundState<'a, G> {
         true
     }
 
+    /// Whether the event may happen now.
     fn is_enabled(&self, event: Event) -> bool
         ensures { result ≡ is_enabled self.now.now event }
     {
@@ -146,6 +150,7 @@ impl<'a, G: StepGraph> RoundState<'a, G> {
         }
     }
 
+    /// Cuts the frontier into batches of this size, none of which is taken.
     fn begin(&mut self, size: u32)
         requires { is_enabled self.old.now (Begin size) ≡ true }
         ensures { self.new ≡ stepped self.old (Begin size) }
@@ -156,6 +161,7 @@ impl<'a, G: StepGraph> RoundState<'a, G> {
         self.size = size;
     }
 
+    /// Puts a batch into a worker's hand.
     fn take(&mut self, worker: usize, batch: usize)
         requires { is_enabled self.old.now (Take worker batch) ≡ true }
         ensures { self.new ≡ stepped self.old (Take worker batch) }
@@ -166,6 +172,7 @@ impl<'a, G: StepGraph> RoundState<'a, G> {
         self.hands[worker] = Some(hand);
     }
 
+    /// Makes the next move of the batch in a worker's hand.
     fn relax(&mut self, worker: usize)
         requires { is_enabled self.old.now (Relax worker) ≡ true }
         ensures { self.new ≡ stepped self.old (Relax worker) }
@@ -177,6 +184,7 @@ impl<'a, G: StepGraph> RoundState<'a, G> {
         }
     }
 
+    /// Ends the round: what was noted, in rising order, is the next frontier.
     fn close(&mut self)
         requires { is_enabled self.old.now Close ≡ true }
         ensures { self.new ≡ stepped self.old Close }

@@ -43,7 +43,8 @@ fn note(noted: &mut Vec<u32>, state: u32)
     noted.push_reserved(state);
 }
 
-/// A walk to the target was found, whose settled word this is. The lesser settled word stays, and the target is noted where it is new.
+/// A walk to the target was found, whose settled word this is. The lesser settled word stays, and the target is noted
+/// where it is new.
 pub(crate) fn lower(words: &mut Vec<u64>, noted: &mut Vec<u32>, target: u32, word: u64)
     requires below { target < length words.old.items }
     requires room { length noted.old.items < vec_capacity noted.old }

@@ -11,8 +11,8 @@ use std::alloc::{AllocError, Global};
 
 /// The settled words of a graph, with the rounds and the moves that it takes to find them.
 ///
-/// It asks once for each target of each reached number, and takes memory twice, for the settled words and for a queue of all numbers
-/// that are reached. `AllocError` only where one of the two was refused.
+/// It asks once for each target of each reached number, and takes memory twice, for the settled words and for a queue
+/// of all numbers that are reached. `AllocError` only where one of the two was refused.
 pub fn search_plain<G: StepGraph>(alloc: Global, graph: &G) -> Result<Settled, AllocError>
     ensures { IfOk result (λ s. IsSearched (G.origin graph.now) (G.lists graph.now) s) }
 {
@@ -34,8 +34,8 @@ pub fn search_plain<G: StepGraph>(alloc: Global, graph: &G) -> Result<Settled, A
     Ok(Settled::new(words, rounds, relaxed))
 }
 
-/// Makes each move of the queued numbers from `begin` on, which are those at this distance, and queues the numbers that are
-/// reached by them for the first time. The queue has room for all numbers. Answers how many moves it made.
+/// Makes each move of the queued numbers from `begin` on, which are those at this distance, and queues the numbers that
+/// are reached by them for the first time. The queue has room for all numbers. Answers how many moves it made.
 fn relax_round<G: StepGraph>(
     graph: &G,
     words: &mut Vec<u64>,

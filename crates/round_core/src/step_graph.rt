@@ -1,4 +1,5 @@
-//! The graphs that a search can search. A graph needn't hold its moves: it may compute each target when it is asked for.
+//! The graphs that a search can search. A graph needn't hold its moves: it may compute each target when it is asked
+//! for.
 ghost use Rattle.std.specs.Prelude.{◌≡◌, ℕ, ◌<◌, ◌≤◌, List, [], ◌∷◌, length, MatchOption};
 ghost use Rattle.graph_rules.specs.Graphs.{row, HasTarget, most_numbers, word_half};
 
@@ -7,9 +8,9 @@ pub const MAX_NUMBERS: u32 = 33_554_432;
 
 /// A graph of the numbers below a count, each with a list of fewer than 2^32 targets. No call takes memory.
 ///
-/// For contracts a graph is plain data, its start `origin` and the lists of targets `lists`. A cursor is a place in the list of
-/// one number: `left` are the targets that it hasn't given yet, and `owns` says whose cursor it is. `has_rank` says which
-/// ranks a number may have.
+/// For contracts a graph is plain data, its start `origin` and the lists of targets `lists`. A cursor is a place in the
+/// list of one number: `left` are the targets that it hasn't given yet, and `owns` says whose cursor it is. `has_rank`
+/// says which ranks a number may have.
 pub trait StepGraph {
     /// A place in the list of a number's targets.
     type Cursor: Drop;

@@ -5,7 +5,7 @@ use crate::{Event, RoundState, StepGraph, search_plain};
 use std::alloc::{AllocError, Global};
 use std::test::*;
 
-// Three numbers: 0 leads to 1 and 2, 1 leads to 2.
+/// Three numbers: 0 leads to 1 and 2, 1 leads to 2.
 #[derive(Drop)]
 struct Three;
 
@@ -52,7 +52,7 @@ impl StepGraph for Three {
     }
 }
 
-// Numbers of `degree` targets each: the target of number s at place i is (s * factor + i * turn + shift) % count.
+/// Numbers of `degree` targets each: the target of number s at place i is (s * factor + i * turn + shift) % count.
 #[derive(Drop)]
 struct Regular {
     count: u32,
@@ -65,6 +65,7 @@ struct Regular {
 }
 
 impl Regular {
+    /// A graph of these numbers.
     fn new(count: u32, start: u32, degree: u32, factor: u32, turn: u32, shift: u32) -> Regular
         requires { (count ≤ 33554432) × (start < count) × (degree < 65536) × (factor < 65536) × (turn < 65536) }
         ensures { result.count ≡ count }
@@ -182,7 +183,7 @@ fn one_schedule(rt: HostRuntime) -> Result<(), Fail> {
     Ok(())
 }
 
-// Does the events again and again, for long enough that two workers with batches of two numbers search eight moves.
+/// Does the events again and again, for long enough that two workers with batches of two numbers search eight moves.
 fn drive(machine: &mut RoundState<'_, Regular>)
     ensures { machine.new.lists ≡ machine.old.lists }
 {
@@ -211,7 +212,7 @@ fn drive(machine: &mut RoundState<'_, Regular>)
     }
 }
 
-// Whether the plain search gives these, and the machine the same settled words.
+/// Whether the plain search gives these, and the machine the same settled words.
 fn agree(
     alloc: Global,
     graph: &Regular,

@@ -1,9 +1,9 @@
-//! The laws of pairs that stay: which entries stay in a finished sequence of words although they swallow a boundary between two of
-//! them, wherever in the sequence they stand, and how few strokes such a sequence has.
+//! The laws of pairs that stay: which entries stay in a finished sequence of words although they swallow a boundary
+//! between two of them, wherever in the sequence they stand, and how few strokes such a sequence has.
 //!
 //! Each function here has an empty body, and its contract is a law, over every list of entries and every list of words
-//! among them. The definitions are those of `steno_rules`, of `graph_rules` and of this crate's specs/; docs/DEFINITIONS.md
-//! tells them and these laws in plain words.
+//! among them. The definitions are those of `steno_rules`, of `graph_rules` and of this crate's specs/;
+//! docs/DEFINITIONS.md tells them and these laws in plain words.
 #![tactic(auto)]
 
 ghost use Rattle.std.specs.Prelude.{◌≡◌, ◌↔◌, ◌+◌, ◌<◌, ◌≤◌, ℕ, List, length};
@@ -17,8 +17,8 @@ ghost use Rattle.settled_laws.specs.OpenHits.{IsLeastReached, IsReachedHit};
 ghost use Rattle.settled_laws.specs.OpenNumbers.{IsLeastOpen, IsOpenNumber};
 ghost use Rattle.settled_laws.specs.SettledPairs.{IsLeastSettled, SettledPair, Stays};
 
-/// The pairs that stay are the open hits that are reached and can finish, and their fewest strokes the least sum of the moves
-/// and the strokes that finish. Each conflict is one, with no more strokes.
+/// The pairs that stay are the open hits that are reached and can finish, and their fewest strokes the least sum of the
+/// moves and the strokes that finish. Each conflict is one, with no more strokes.
 pub fn settled_pairs()
     ensures pairs { (entries words : List (List ℕ)) (e place : ℕ) → AreWords entries words →
         SettledPair entries words e place ↔
@@ -45,8 +45,9 @@ pub fn chosen_open_hits()
         IsLeastSettled entries words e place (n + length z) }
 {}
 
-/// The walk to an open hit, back by the settled words, spells words that have the hit's pair, together with the word that is
-/// ended where one is open. Their strokes are the moves and those that finish: for the chosen open hit the fewest.
+/// The walk to an open hit, back by the settled words, spells words that have the hit's pair, together with the word
+/// that is ended where one is open. Their strokes are the moves and those that finish: for the chosen open hit the
+/// fewest.
 pub fn finished_examples()
     ensures words { (entries words : List (List ℕ))
         (table : List ℕ) (e place number n : ℕ) (z : List ℕ) → AreWords entries words →

@@ -78,9 +78,9 @@ pub(crate) fn finish_by(
     }
 }
 
-/// The finish of an open hit: the fewest strokes after which the open word is a word and the last piece still stands. None
-/// exactly where no strokes do that. They are looked for below the open word's node alone, depth by depth, and no deeper
-/// than the finish. It takes no memory.
+/// The finish of an open hit: the fewest strokes after which the open word is a word and the last piece still stands.
+/// None exactly where no strokes do that. They are looked for below the open word's node alone, depth by depth, and no
+/// deeper than the finish. It takes no memory.
 pub fn finish(
     _: Global,
     trie: &Trie,

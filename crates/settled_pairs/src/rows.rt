@@ -201,9 +201,10 @@ fn all_rows(
     Ok(rows)
 }
 
-/// All pairs of a stack that stay, by entry and then by place, each with words of fewest strokes that have it: those of the
-/// walk to its chosen open hit, and the word that finishes it. Each has fewer than 67,108,864 strokes. The trie, its windows,
-/// the words and the numbering are those of the stack, and the table has the settled words of its closure graph.
+/// All pairs of a stack that stay, by entry and then by place, each with words of fewest strokes that have it: those of
+/// the walk to its chosen open hit, and the word that finishes it. Each has fewer than 67,108,864 strokes. The trie,
+/// its windows, the words and the numbering are those of the stack, and the table has the settled words of its closure
+/// graph.
 pub fn settled(
     alloc: Global,
     trie: &Trie,

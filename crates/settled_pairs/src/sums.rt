@@ -1,5 +1,5 @@
-//! The chosen open hits: for each pair of an entry and an inner place the open hit with the least sum of its distance and of
-//! the strokes that finish it, and of those the one of least number.
+//! The chosen open hits: for each pair of an entry and an inner place the open hit with the least sum of its distance
+//! and of the strokes that finish it, and of those the one of least number.
 ghost use Rattle.std.specs.Prelude.{◌≡◌, ◌≢◌, ◌+◌, ◌<◌, ◌≤◌, ◌^◌, IfOk, IfSome, MatchOption, length, min, slice_set, get_or};
 ghost use Rattle.graph_rules.specs.Graphs.{IsSettledWord, unreached};
 ghost use Rattle.steno_rules.specs.ClosureGraphs.{kept_lists};
@@ -126,8 +126,8 @@ fn note(
     }
 }
 
-/// The word of the chosen open hit in the slot of each pair, its sum times 2^32 and its number; the greatest word where there
-/// is none.
+/// The word of the chosen open hit in the slot of each pair, its sum times 2^32 and its number; the greatest word where
+/// there is none.
 pub(crate) fn first_sums(
     alloc: Global,
     trie: &Trie,

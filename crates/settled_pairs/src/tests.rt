@@ -174,7 +174,8 @@ fn file_of(rt: &impl Abort, alloc: Global, seed: &mut u32, count: u32) -> String
     text
 }
 
-/// Whether a row is right beside the pairs of sequences of up to six words: a pair of so few words has just as many strokes.
+/// Whether a row is right beside the pairs of sequences of up to six words: a pair of so few words has just as many
+/// strokes.
 fn agrees(row: &Conflict, plain: &[Found]) -> bool {
     for pair in plain {
         if pair.entry == row.entry() && pair.place == u32::from(row.place()) {

@@ -10,8 +10,8 @@ use closure_state::WordSet;
 use match_window::Windows;
 use outline_trie::Trie;
 
-/// The window after the last stroke of a node's child, `passed` strokes and that one behind a piece. None where the piece
-/// doesn't stay, or no word is near enough below the child.
+/// The window after the last stroke of a node's child, `passed` strokes and that one behind a piece. None where the
+/// piece doesn't stay, or no word is near enough below the child.
 fn window_by(
     trie: &Trie,
     windows: &Windows<'_>,
@@ -43,8 +43,8 @@ fn window_by(
     }
 }
 
-/// The first word that ends so many strokes below a node, where a piece `passed` strokes ago stays. A node whose nearest word
-/// is too far is passed over.
+/// The first word that ends so many strokes below a node, where a piece `passed` strokes ago stays. A node whose
+/// nearest word is too far is passed over.
 pub(crate) fn first_way(
     trie: &Trie,
     windows: &Windows<'_>,

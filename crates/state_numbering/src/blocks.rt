@@ -7,8 +7,8 @@ ghost use Rattle.state_numbering.specs.inside.Invariants.{AreBlocksOf};
 use crate::part::Part;
 use std::alloc::{AllocError, Global};
 
-/// Blocks of 2 to the power of `bits` numbers, each with the node in whose part its first number lies. There are at most
-/// as many as nodes.
+/// Blocks of 2 to the power of `bits` numbers, each with the node in whose part its first number lies. There are at
+/// most as many as nodes.
 #[derive(Drop)]
 pub(crate) struct Blocks {
     pub(crate) bits: u32,

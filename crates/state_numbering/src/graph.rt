@@ -6,7 +6,8 @@ use closure_state::Moves;
 use round_core::StepGraph;
 use std::marker::Model;
 
-/// The graph of the kept moves, by the numbers of states. A number without a state has no targets. It borrows the numbering.
+/// The graph of the kept moves, by the numbers of states. A number without a state has no targets. It borrows the
+/// numbering.
 ///
 /// `first` and `next` are inlined into the search, so that a cursor stays in registers from one target to the next.
 #[derive(Drop)]

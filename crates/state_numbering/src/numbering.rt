@@ -23,8 +23,8 @@ use std::alloc::Global;
 use std::marker::Model;
 use stroke::Stroke;
 
-/// The states over the entries of a trie and some words among them, by their numbers. It borrows the trie, its windows and
-/// the words.
+/// The states over the entries of a trie and some words among them, by their numbers. It borrows the trie, its windows
+/// and the words.
 #[derive(Drop)]
 pub struct Numbering<'a> {
     trie: &'a Trie,
@@ -80,8 +80,8 @@ impl<'a> Numbering<'a> {
         self.parts.count()
     }
 
-    /// The number of a state, found without a look-up. Of the open word only the number of its strokes is read, unless it is
-    /// the longer list.
+    /// The number of a state, found without a look-up. Of the open word only the number of its strokes is read, unless
+    /// it is the longer list.
     pub fn number(&self, state: State) -> u32
         requires { IsNodeState self.now.entries self.now.words state }
         ensures number { result
@@ -173,8 +173,8 @@ impl<'a> Numbering<'a> {
         }
     }
 
-    /// The last stroke of the longer of the two lists of a number's state, u where they are of equal length. None exactly
-    /// where no state has the number or both lists are empty.
+    /// The last stroke of the longer of the two lists of a number's state, u where they are of equal length. None
+    /// exactly where no state has the number or both lists are empty.
     pub fn stroke_into(&self, number: u32) -> Option<Stroke>
         ensures { MatchOption result (HasNoStroke self.now number) (IsStrokeInto self.now number) }
     {

@@ -21,8 +21,8 @@ pub struct Receipt {
     pub worker: u32,
 }
 
-/// A deque of batches, which one worker owns. Batches are taken at the front in the order in which they were offered, by the
-/// worker and by its thieves.
+/// A deque of batches, which one worker owns. Batches are taken at the front in the order in which they were offered,
+/// by the worker and by its thieves.
 #[derive(Drop)]
 pub struct BatchDeque {
     deque: Worker<u32, Global, Hand, EachOnce>,
@@ -59,8 +59,8 @@ impl Model for BatchDeque {
 }
 
 impl BatchDeque {
-    /// An empty deque of a worker, without thieves. It has room for this many offers in all, and takes the memory for them
-    /// here. `AllocError` where that was refused.
+    /// An empty deque of a worker, without thieves. It has room for this many offers in all, and takes the memory for
+    /// them here. `AllocError` where that was refused.
     pub fn new(alloc: Global, worker: u32, room: u32) -> Result<BatchDeque, AllocError>
         requires some { 0 < room }
         requires most { room ≤ MOST_ROOM }
@@ -77,8 +77,8 @@ impl BatchDeque {
         })
     }
 
-    /// A thief of this deque for another worker, with a number that no other thief of the deque has. `AllocError` where the
-    /// deque can't be shared once more; then it is as it was.
+    /// A thief of this deque for another worker, with a number that no other thief of the deque has. `AllocError` where
+    /// the deque can't be shared once more; then it is as it was.
     pub fn thief(&mut self, worker: u32) -> Result<BatchThief, AllocError>
         ensures victim { IfOk result (λ t. (t.victim ≡ self.old.id) × (t.worker ≡ worker)) }
         ensures fresh { IfOk result (λ t. (t.number ≡ self.old.made) × (t.taken ≡ [])) }

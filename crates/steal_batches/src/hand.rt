@@ -3,9 +3,9 @@ use std::collections::LinkedList;
 
 /// What a thread knows of a deque. Proofs alone speak of it; the program makes no value of this type.
 ///
-/// `owns` says whether it is the deque's worker, `live` is 1 for a thief that is out, else 0, and `number` is the thief's. The
-/// owner has `made` so many thieves, of which `thieves` are out. `offered` and `taken` are the batches that it offered and
-/// took.
+/// `owns` says whether it is the deque's worker, `live` is 1 for a thief that is out, else 0, and `number` is the
+/// thief's. The owner has `made` so many thieves, of which `thieves` are out. `offered` and `taken` are the batches
+/// that it offered and took.
 pub struct Hand {
     pub owns: bool,
     pub live: u64,

@@ -37,7 +37,7 @@ fn batches_come_in_order_to_whoever_takes(rt: HostRuntime) -> Result<(), Fail> {
     Ok(())
 }
 
-// The number of offers of a deque whose thieves are back and in which nothing is left.
+/// The number of offers of a deque whose thieves are back and in which nothing is left.
 fn closed(rt: &impl Abort, mut deque: BatchDeque) -> u32
     requires { deque.thieves ≡ 0 }
 {
@@ -47,7 +47,7 @@ fn closed(rt: &impl Abort, mut deque: BatchDeque) -> u32
     }
 }
 
-// What a thread took: how many batches, and which of the 64.
+/// What a thread took: how many batches, and which of the 64.
 #[derive(Clone, Copy)]
 struct Loot {
     count: u32,
@@ -55,6 +55,7 @@ struct Loot {
 }
 
 impl Loot {
+    /// The same with one batch more.
     fn with(self, receipt: Receipt) -> Loot {
         Loot {
             count: self.count.wrapping_add(1),
@@ -63,7 +64,7 @@ impl Loot {
     }
 }
 
-// What the owner takes until nothing is left.
+/// What the owner takes until nothing is left.
 fn take_all(deque: &mut BatchDeque) -> Loot
     ensures same { (deque.new.id ≡ deque.old.id) × (deque.new.thieves ≡ deque.old.thieves) }
 {
@@ -77,7 +78,7 @@ fn take_all(deque: &mut BatchDeque) -> Loot
     loot
 }
 
-// What the thief steals until nothing is left.
+/// What the thief steals until nothing is left.
 fn steal_all(rt: &impl Wait, thief: &mut BatchThief) -> Loot
     ensures { thief.new.victim ≡ thief.old.victim }
 {
@@ -91,7 +92,7 @@ fn steal_all(rt: &impl Wait, thief: &mut BatchThief) -> Loot
     loot
 }
 
-// Takes and steals beside each other.
+/// Takes and steals beside each other.
 fn take_beside<R: Threads + Wait + Sync>(
     rt: &R,
     deque: &mut BatchDeque,
@@ -111,7 +112,7 @@ fn take_beside<R: Threads + Wait + Sync>(
     join_mut(rt, &mut owner, &mut other)
 }
 
-// A deque with the batches 0 to 63.
+/// A deque with the batches 0 to 63.
 fn full_deque(alloc: Global) -> Result<BatchDeque, AllocError>
     ensures { IfOk result (λ d. d.thieves ≡ 0) }
 {
@@ -122,7 +123,7 @@ fn full_deque(alloc: Global) -> Result<BatchDeque, AllocError>
     Ok(deque)
 }
 
-// Sixty-four batches, each taken by one of two threads.
+/// Sixty-four batches, each taken by one of two threads.
 fn share_out(rt: &(impl Threads + Wait + Sync + Abort), alloc: Global) -> Result<(), AllocError> {
     let mut deque = full_deque(alloc)?;
     let mut thief = deque.thief(1)?;

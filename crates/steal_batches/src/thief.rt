@@ -61,7 +61,7 @@ impl BatchThief {
         unreachable!()
     }
 
-    // One attempt.
+    /// One attempt.
     fn attempt(&mut self) -> Steal<Receipt>
         ensures { MatchSteal result
             ((self.new ≡ self.old) × WasEmptyToThief self.old)

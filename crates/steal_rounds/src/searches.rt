@@ -28,9 +28,9 @@ pub struct Searched {
     pub relaxed: u64,
 }
 
-/// Searches a graph on the caller's table, with 1 to [`MAX_WORKERS`] workers, of which the calling thread is one. The pass has seen
-/// nothing before. Afterwards its history has each move of each reached number, with the number's least distance. Each
-/// round asks the rank of each of its numbers once and sorts the numbers by it.
+/// Searches a graph on the caller's table, with 1 to [`MAX_WORKERS`] workers, of which the calling thread is one. The
+/// pass has seen nothing before. Afterwards its history has each move of each reached number, with the number's least
+/// distance. Each round asks the rank of each of its numbers once and sorts the numbers by it.
 ///
 /// `AllocError` where memory was refused; the workers' passes are joined all the same, so the history is legal. The
 /// call may wait for its workers, for a steal that lost against another, and for the gate.

@@ -103,6 +103,7 @@ struct Meeting {
 const TURNS: u32 = 20000000;
 
 impl Meeting {
+    /// A meeting of these two workers, to which nobody came yet.
     fn of(first: u32, second: u32) -> Meeting {
         Meeting {
             first,
@@ -113,6 +114,7 @@ impl Meeting {
         }
     }
 
+    /// Notes who came, and waits a while for the other.
     fn meet(&self, mine: &AtomicU64, other: &AtomicU64) {
         mine.store(1, Ordering::SeqCst);
         for _turn in 0..TURNS {

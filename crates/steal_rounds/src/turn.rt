@@ -17,6 +17,7 @@ pub trait Turn<M> {
 
     ghost turns: { Self → M → M → Type 0 };
 
+    /// Does what is to be done with one value.
     fn turn<R: Wait>(&self, rt: &R, member: &mut M)
         requires { may_turn self.now member.old }
         ensures { turns self.now member.old member.new };

@@ -37,7 +37,8 @@ pub fn list_spellings()
         (spelt_strokes text ≡ None) ↔ ((part : ℕ) × (unreadable_part text ≡ Some part)) }
 {}
 
-/// The same as [`canonical_spellings`] for lists of one or more strokes; the text of an outline is short enough to be read.
+/// The same as [`canonical_spellings`] for lists of one or more strokes; the text of an outline is short enough to be
+/// read.
 pub fn canonical_lists()
     ensures spells { (strokes : List ℕ) →
         0 < length strokes → All IsStroke strokes → SpellingOfAll (canonical_text strokes) strokes }

@@ -14,6 +14,7 @@ fn walk<L: Ledger>(turns: u8, steps: &mut Steps<L>)
     }
 }
 
+/// A walk of 7 steps by a counter that begins so.
 fn walk_from<L: Ledger>(blank: Blank)
     requires name { blank.name ≡ L.name }
     requires parts { blank.parts ≡ L.parts }

@@ -12,7 +12,8 @@ use std::alloc::{AllocError, Global};
 use std::cmp::Ordering;
 use std::marker::Model;
 
-/// A list of at most [`Outline::MAX`] strokes, seen as the list of their codes. Outlines are ordered stroke by stroke, a prefix first.
+/// A list of at most [`Outline::MAX`] strokes, seen as the list of their codes. Outlines are ordered stroke by stroke,
+/// a prefix first.
 ///
 /// An entry of a dictionary has at least one stroke. The type has room for the empty list, with which building begins.
 /// Beside the list the first two strokes stand as one number: it decides most comparisons without a look at the list.

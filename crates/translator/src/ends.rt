@@ -1,5 +1,6 @@
-//! The ends of what was pushed. For each piece of the window its end is the node of the strokes from the piece's start on,
-//! None where no entry begins with them. One look-up advances an end by a stroke, so no stroke is kept or read again.
+//! The ends of what was pushed. For each piece of the window its end is the node of the strokes from the piece's start
+//! on, None where no entry begins with them. One look-up advances an end by a stroke, so no stroke is kept or read
+//! again.
 ghost use Rattle.std.specs.Prelude.{◌≡◌, ◌+◌, ◌≤◌, ◌<◌, ◌++◌, ◌∷◌, [], All, drop, is_some, length, position, vec_capacity, Some};
 ghost use Rattle.translator.specs.inside.Ends.{IsAdvance, IsEnd, longer_end, is_entry_end, lost_ends, piece_at};
 
@@ -53,8 +54,8 @@ pub(crate) fn piece_of_end(trie: &Trie, end: Option<u32>) -> Piece
     }
 }
 
-/// Takes one stroke more into each end, up to the first that is an entry with it; the ends after that one go. Where none is,
-/// the stroke alone is a last end. The place of the last end.
+/// Takes one stroke more into each end, up to the first that is an entry with it; the ends after that one go. Where
+/// none is, the stroke alone is a last end. The place of the last end.
 pub(crate) fn advance<L: Ledger>(
     ends: &mut Vec<Option<u32>>,
     trie: &Trie,

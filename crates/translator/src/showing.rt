@@ -10,10 +10,11 @@ use outline_trie::Trie;
 use std::alloc::{AllocError, Global};
 use stroke::Outline;
 
-/// Whether the words, given by their numbers among the entries, show the place in the entry, as `longest_match::shows` says.
+/// Whether the words, given by their numbers among the entries, show the place in the entry, as `longest_match::shows`
+/// says.
 ///
-/// The trie is that of the entries. The strokes of the words are translated by the live translator, so the time follows the
-/// strokes and not the number of entries.
+/// The trie is that of the entries. The strokes of the words are translated by the live translator, so the time follows
+/// the strokes and not the number of entries.
 pub fn shows(
     alloc: Global,
     trie: &Trie,

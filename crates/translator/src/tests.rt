@@ -82,10 +82,12 @@ fn numbered_list(rt: &impl Abort, alloc: Global, number: u32) -> Result<Vec<Stro
     Ok(strokes)
 }
 
+/// A piece of one stroke.
 const fn lone(entry: Option<u32>) -> Piece {
     Piece { len: 1, entry }
 }
 
+/// A piece that is an entry of so many strokes.
 const fn whole(len: u32, entry: u32) -> Piece {
     Piece {
         len,
@@ -93,6 +95,7 @@ const fn whole(len: u32, entry: u32) -> Piece {
     }
 }
 
+/// What a push answers.
 const fn answer(replaced: u32, piece: Piece) -> Merge {
     Merge { replaced, piece }
 }

@@ -43,12 +43,14 @@ impl<'a> Model for Translator<'a> {
 
     ghost view = { λ t. record { entries = t.trie.now; strokes = reverse t.told.items } };
 
-    ghost invariant = { λ t. IsTranslator t.trie.now (reverse t.told.items) t.pieces.items t.ends.items (vec_capacity t.pieces) (vec_capacity t.ends) };
+    ghost invariant = { λ t.
+        IsTranslator t.trie.now (reverse t.told.items)
+        t.pieces.items t.ends.items (vec_capacity t.pieces) (vec_capacity t.ends) };
 }
 
 impl Translator<'_> {
-    /// A translator to which nothing was pushed. All its memory is taken here: places for the pieces of a window and one
-    /// more.
+    /// A translator to which nothing was pushed. All its memory is taken here: places for the pieces of a window and
+    /// one more.
     pub fn new(alloc: Global, trie: &Trie) -> Result<Translator<'_>, AllocError>
         ensures { IfOk result (λ translator. translator ≡ record {
           entries = trie.now;
@@ -64,8 +66,8 @@ impl Translator<'_> {
         })
     }
 
-    /// One stroke more. At most one look-up for each piece of the window and one for the stroke alone, whatever was pushed
-    /// before.
+    /// One stroke more. At most one look-up for each piece of the window and one for the stroke alone, whatever was
+    /// pushed before.
     pub fn push<L: Ledger>(&mut self, stroke: Stroke, steps: &mut Steps<L>) -> Merge
         ensures stands { self.new ≡ record {
           entries = self.old.entries;

@@ -10,7 +10,8 @@ use std::sync::ledger::{Blank, Ledger};
 use steps::Steps;
 use stroke::{Piece, Stroke};
 
-/// The pieces of a list of strokes, first one first: each stroke is pushed, and what the push answers is done to the pieces.
+/// The pieces of a list of strokes, first one first: each stroke is pushed, and what the push answers is done to the
+/// pieces.
 pub fn translate(alloc: Global, trie: &Trie, strokes: &[Stroke]) -> Result<Vec<Piece>, AllocError>
     ensures pieces { IfOk result (λ found. found.items ≡ pieces_of trie.now strokes.now) }
     ensures lengths { IfOk result (λ found. sum_by (λ p. p.len) found.items ≡ length strokes.now) }

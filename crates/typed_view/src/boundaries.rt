@@ -16,7 +16,8 @@ pub enum Cover {
     Crossed { entry: u32, place: u32 },
 }
 
-/// What becomes of each boundary, as a function, is what the relation says: one piece at most has strokes on both sides.
+/// What becomes of each boundary, as a function, is what the relation says: one piece at most has strokes on both
+/// sides.
 pub fn boundary_covers()
     ensures { (pieces : List Piece) (at : ℕ) → IsCover pieces at (cover_at pieces at) }
 {}
@@ -42,8 +43,8 @@ fn first_cover(pieces: &[Piece], at: u32) -> Cover
     }
 }
 
-/// The pieces from the one on that ends behind the boundary, which lies `at` strokes after the start of all of them; and how
-/// many strokes after their own start it lies.
+/// The pieces from the one on that ends behind the boundary, which lies `at` strokes after the start of all of them;
+/// and how many strokes after their own start it lies.
 fn pieces_at(pieces: &[Piece], at: u32) -> (&[Piece], u32)
     ensures first { All (λ piece. result.1 < piece.len) (take 1 result.0.now) }
     ensures later { (k : ℕ) → cover_at result.0.now (result.1 + k) ≡ cover_at pieces.now (at + k) }
@@ -61,7 +62,8 @@ fn pieces_at(pieces: &[Piece], at: u32) -> (&[Piece], u32)
 
 /// What becomes of each boundary between two parts, first one first.
 ///
-/// `parts` are how many strokes each part has, and `pieces` are those of all strokes together. The cost is linear in both.
+/// `parts` are how many strokes each part has, and `pieces` are those of all strokes together. The cost is linear in
+/// both.
 pub fn covers(alloc: Global, parts: &[u32], pieces: &[Piece]) -> Result<Vec<Cover>, AllocError>
     requires { sum parts.now < 2 ^ 32 }
     ensures { IfOk result (λ covers. covers.items ≡ covers_of parts.now pieces.now) }

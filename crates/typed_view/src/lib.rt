@@ -1,7 +1,7 @@
 //! What becomes of the boundaries of a typed sequence: each is kept, or a piece of the translation crosses it.
 //!
-//! A typed sequence is a list of parts that are written one after another. Its strokes, joined, are translated as if nothing had
-//! stood between them, and a boundary between two parts is crossed where it lies inside a piece.
+//! A typed sequence is a list of parts that are written one after another. Its strokes, joined, are translated as if
+//! nothing had stood between them, and a boundary between two parts is crossed where it lies inside a piece.
 #![tactic(auto)]
 
 mod boundaries;

@@ -77,11 +77,11 @@ fn write_lines<S: Sink>(
     Ok(())
 }
 
-/// Puts a line for each boundary, numbered from 1 on: that it is kept, or the outline of the entry that crosses it and how many of
-/// its strokes stand before the boundary.
+/// Puts a line for each boundary, numbered from 1 on: that it is kept, or the outline of the entry that crosses it and
+/// how many of its strokes stand before the boundary.
 ///
-/// It fails where the sink does and where memory is refused, and then a prefix of the lines was put. The cost is linear in the
-/// text, which is put in pieces of 65,536 bytes and more.
+/// It fails where the sink does and where memory is refused, and then a prefix of the lines was put. The cost is linear
+/// in the text, which is put in pieces of 65,536 bytes and more.
 pub fn write_covers<S: Sink>(
     alloc: Global,
     sink: &mut S,

@@ -4,8 +4,8 @@ use crate::boundaries::{Cover, covers};
 use std::alloc::{AllocError, Global};
 use stroke::Piece;
 
-/// What becomes of the boundaries of S, T/K/P and W, where S/T is entry 2 and P/W entry 4; of those of S/T, K and P/W; and of
-/// none.
+/// What becomes of the boundaries of S, T/K/P and W, where S/T is entry 2 and P/W entry 4; of those of S/T, K and P/W;
+/// and of none.
 #[test]
 fn boundaries_of_typed_parts(rt: HostRuntime) -> Result<(), AllocError> {
     let pieces = [

@@ -7,8 +7,8 @@ use std::alloc::Global;
 use std::process::Abort;
 use std::test::Fail;
 
-/// A run in which the call of this number fails: 0 begins "out", 1 opens "in", 2 takes it whole, 3 puts its line, 4 finds its
-/// end, 5 ends "out".
+/// A run in which the call of this number fails: 0 begins "out", 1 opens "in", 2 takes it whole, 3 puts its line, 4
+/// finds its end, 5 ends "out".
 fn check_fault(
     rt: &impl Abort,
     alloc: Global,

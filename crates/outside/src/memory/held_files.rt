@@ -86,6 +86,7 @@ fn copy_front(from: &[u8], into: &mut [u8]) -> usize
 }
 
 impl HeldFiles {
+    /// No files.
     pub(crate) fn new(alloc: Global) -> Self
         ensures { held_view result ≡ no_files }
     {
@@ -109,6 +110,7 @@ impl HeldFiles {
         set_file(&mut self.files, self.alloc, name, bytes)
     }
 
+    /// The bytes of the named file, None where it isn't held.
     pub(crate) fn bytes(&self, name: &str) -> Option<&[u8]>
         ensures { option_map (λ bytes. bytes.now) result ≡ (held_view self.now).kept name.now }
     {
@@ -152,7 +154,8 @@ impl HeldFiles {
         count
     }
 
-    /// The file becomes empty and is being written. After a refusal none is, and all are as they were. The rest becomes empty.
+    /// The file becomes empty and is being written. After a refusal none is, and all are as they were. The rest becomes
+    /// empty.
     pub(crate) fn begin(&mut self, name: &str) -> Result<(), AllocError>
         ensures ok { OnOk result
             (Sets name.now [] (held_view self.old).kept (held_view self.new).kept) }
@@ -217,14 +220,15 @@ impl HeldFiles {
         self.files.get(name).is_some()
     }
 
+    /// Whether a name was opened.
     pub(crate) fn has_opened(&self) -> bool
         ensures { result ≡ is_some (held_view self.now).places.opened }
     {
         self.places.has_opened()
     }
 
-    /// What a device does that fails to open the file: the name is the one last opened, the rest is empty, and the fault
-    /// is counted. A refusal leaves an empty rest.
+    /// What a device does that fails to open the file: the name is the one last opened, the rest is empty, and the
+    /// fault is counted. A refusal leaves an empty rest.
     pub(crate) fn fail_to_open(&mut self, name: &str) -> Result<(), AllocError>
         ensures later { (held_view self.old).places.faults ≤ (held_view self.new).places.faults }
         ensures ok { let before = held_view self.old in
@@ -247,8 +251,8 @@ impl HeldFiles {
         Ok(())
     }
 
-    /// What a device does that fails to begin the file: no file is being written, the rest is empty, and the fault is counted
-    /// at the name. After a refusal only that isn't.
+    /// What a device does that fails to begin the file: no file is being written, the rest is empty, and the fault is
+    /// counted at the name. After a refusal only that isn't.
     pub(crate) fn fail_to_begin(&mut self, name: &str) -> Result<(), AllocError>
         ensures later { (held_view self.old).places.faults ≤ (held_view self.new).places.faults }
         ensures ok { let before = held_view self.old in

@@ -45,9 +45,9 @@ impl MemFiles {
         self.files.add(name, bytes)
     }
 
-    /// The calls of [`Files`] with these numbers fail, in the place of those listed before. The first call has the number 0,
-    /// and calls made before this one are counted too. A `take` where no name was opened doesn't fail. Each call looks
-    /// through the list.
+    /// The calls of [`Files`] with these numbers fail, in the place of those listed before. The first call has the
+    /// number 0, and calls made before this one are counted too. A `take` where no name was opened doesn't fail. Each
+    /// call looks through the list.
     pub fn fail_at(&mut self, calls: Vec<u64>)
         ensures kept { mem_kept self.new ≡ mem_kept self.old }
         ensures view { mem_view self.new ≡ mem_view self.old }
@@ -65,8 +65,8 @@ impl MemFiles {
     }
 }
 
-/// Each clause of the trait, and four more: a call moves all that it can, which names are held, the count of calls, and that
-/// a call fails exactly where it is listed, or opens a name that isn't held.
+/// Each clause of the trait, and four more: a call moves all that it can, which names are held, the count of calls, and
+/// that a call fails exactly where it is listed, or opens a name that isn't held.
 impl Files for MemFiles {
     ghost use Rattle.outside.specs.Mem.{mem_view};
 

@@ -39,8 +39,8 @@ impl MemSink {
         }
     }
 
-    /// The calls of [`Sink`] with these numbers fail, in the place of those listed before. The first call has the number 0,
-    /// and calls made before this one are counted too. Each call looks through the list.
+    /// The calls of [`Sink`] with these numbers fail, in the place of those listed before. The first call has the
+    /// number 0, and calls made before this one are counted too. Each call looks through the list.
     pub fn fail_at(&mut self, calls: Vec<u64>)
         ensures { self.new ≡
             record self.old { script = record self.old.script { failing = calls.items } } }
@@ -56,8 +56,8 @@ impl MemSink {
     }
 }
 
-/// Each clause of the trait, and three more: a call takes all that it is given, the count of calls, and that a call fails
-/// exactly where it is listed.
+/// Each clause of the trait, and three more: a call takes all that it is given, the count of calls, and that a call
+/// fails exactly where it is listed.
 impl Sink for MemSink {
     ghost use Rattle.std.specs.Prelude.{Some};
 

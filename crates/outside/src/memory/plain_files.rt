@@ -10,8 +10,8 @@ use crate::memory::held_files::HeldFiles;
 use crate::{Failed, Files, OutsideFault, Way};
 use std::alloc::{AllocError, Global};
 
-/// Files in memory whose count of faults is 0 for ever. A name that isn't held reads as an empty file. A file that is opened
-/// is copied.
+/// Files in memory whose count of faults is 0 for ever. A name that isn't held reads as an empty file. A file that is
+/// opened is copied.
 #[derive(Drop)]
 pub struct PlainFiles {
     files: HeldFiles,

@@ -22,6 +22,7 @@ impl Model for Script {
 }
 
 impl Script {
+    /// A script by which no call fails.
     pub(crate) fn new(alloc: Global) -> Self
         ensures { result ≡ no_script }
     {

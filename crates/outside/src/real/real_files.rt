@@ -1,5 +1,5 @@
-//! The runtime's files behind the trait `Files`. They tell no bytes: what the system reads and writes is trusted, and only
-//! the names, the places of faults and their count are proved.
+//! The runtime's files behind the trait `Files`. They tell no bytes: what the system reads and writes is trusted, and
+//! only the names, the places of faults and their count are proved.
 
 ghost use Rattle.std.specs.Prelude.{◌≡◌, None};
 ghost use Rattle.outside.specs.Files.{untouched};
@@ -12,9 +12,10 @@ use std::fs;
 use std::io::{Read, Write};
 
 /// Real files, one open for reading and one for writing at a time. Each error of the system is a fault and raises the
-/// count, which stays at its last value 2^64 - 1. A folder can be opened, and then reading it fails. A piece that is read is
-/// one call of the system. What is put is gathered: the system is given 64 KiB at once, and the rest when the writing ends.
-/// So a file whose writing isn't ended may lack its last bytes. After a refused piece nothing more is written to the file.
+/// count, which stays at its last value 2^64 - 1. A folder can be opened, and then reading it fails. A piece that is
+/// read is one call of the system. What is put is gathered: the system is given 64 KiB at once, and the rest when the
+/// writing ends. So a file whose writing isn't ended may lack its last bytes. After a refused piece nothing more is
+/// written to the file.
 #[derive(Drop)]
 pub struct RealFiles<'a, R: std::rt::Files> {
     rt: &'a R,
@@ -42,7 +43,14 @@ impl<'a, R: std::rt::Files> RealFiles<'a, R> {
 impl<R: std::rt::Files> Files for RealFiles<'_, R> {
     ghost use Rattle.std.specs.Prelude.{None};
 
-    ghost view = { λ s. record { held = None; rest = None; opened = s.places.opened; writing = s.places.writing; latest = s.places.latest; faults = s.places.faults } };
+    ghost view = { λ s. record {
+      held = None;
+      rest = None;
+      opened = s.places.opened;
+      writing = s.places.writing;
+      latest = s.places.latest;
+      faults = s.places.faults;
+    } };
 
     fn open_file(&mut self, name: &str) -> Result<(), OutsideFault> {
         self.reading = None;

@@ -5,8 +5,8 @@ ghost use Rattle.std.specs.Prelude.{◌≡◌};
 
 use crate::{OutsideFault, Sink};
 
-/// The standard output, each piece one call of the system. Each error of the system is a fault and raises the count, which
-/// stays at its last value 2^64 - 1.
+/// The standard output, each piece one call of the system. Each error of the system is a fault and raises the count,
+/// which stays at its last value 2^64 - 1.
 #[derive(Drop)]
 pub struct RealSink<'a, R: Print> {
     rt: &'a R,
@@ -14,6 +14,7 @@ pub struct RealSink<'a, R: Print> {
 }
 
 impl<'a, R: Print> RealSink<'a, R> {
+    /// The standard output of this runtime, before any fault.
     pub fn new(rt: &'a R) -> RealSink<'a, R>
         ensures text { ⟦<RealSink<'a, R> as Sink>⟧.text result ≡ None }
         ensures faults { ⟦<RealSink<'a, R> as Sink>⟧.faults result ≡ 0 }

@@ -7,6 +7,7 @@ use std::alloc::Global;
 use std::process::Abort;
 use std::test::Fail;
 
+/// The fault as one of reading.
 fn as_read(fault: OutsideFault) -> ReadFault {
     match fault {
         OutsideFault::Failed => ReadFault::Failed,
@@ -14,8 +15,8 @@ fn as_read(fault: OutsideFault) -> ReadFault {
     }
 }
 
-/// Copies the file "in" to the file "out", and puts its bytes on the sink. The calls of the files have the numbers 0 (open),
-/// 1 (the first piece), 2 (the end), 3 (begin), 4 (put) and 5 (end).
+/// Copies the file "in" to the file "out", and puts its bytes on the sink. The calls of the files have the numbers 0
+/// (open), 1 (the first piece), 2 (the end), 3 (begin), 4 (put) and 5 (end).
 fn copy(alloc: Global, files: &mut MemFiles, sink: &mut MemSink) -> Result<(), ReadFault> {
     let bytes = read_all(alloc, files, "in", 8)?;
     if let Err(fault) = files.begin("out") {

@@ -48,8 +48,8 @@ fn audits_with_a_certificate(rt: HostRuntime) -> Result<(), AllocError> {
     Ok(())
 }
 
-/// A change a line: a part of the certificate in version 1, what stands in that place, and how the check ends, with `|` between
-/// them. `;` is a line feed.
+/// A change a line: a part of the certificate in version 1, what stands in that place, and how the check ends, with `|`
+/// between them. `;` is a line feed.
 const FORGED: &str = r#"certificate 1|certificate 1|0|accepted conflicts 1
 certificate 1|certificate 3|8|rejected line 1 form
 entries 5|entries 4|8|rejected line 2 entries

@@ -65,8 +65,8 @@ fn seventeen_dictionaries_open_no_file(rt: HostRuntime) -> Result<(), AllocError
     check_failing_call(&rt, rt.alloc(), line, 0, Status::Limit, want)
 }
 
-/// Dictionaries: `d` is out of step, with its certificate in version 2 and, in `o`, in version 1; `u` is the usual case; `k` has a
-/// longer entry that its others merge into.
+/// Dictionaries: `d` is out of step, with its certificate in version 2 and, in `o`, in version 1; `u` is the usual
+/// case; `k` has a longer entry that its others merge into.
 fn with_certificates(alloc: Global) -> Result<MemFiles, AllocError> {
     let mut files = files_of(alloc, OUT_OF_STEP)?;
     files.add("c", VERSION_2.as_bytes())?;
@@ -87,8 +87,8 @@ fn holds_prefix(files: &MemFiles, name: &str, text: &str) -> bool {
     }
 }
 
-/// Runs a line over files whose call of this number fails, and returns whether it was made. The first `dictionary` calls read
-/// the dictionary, and the others a certificate. A file `n` that is written holds a prefix of version 2.
+/// Runs a line over files whose call of this number fails, and returns whether it was made. The first `dictionary`
+/// calls read the dictionary, and the others a certificate. A file `n` that is written holds a prefix of version 2.
 fn fails_at(
     rt: &(impl Abort + Threads + Wait + Sync),
     alloc: Global,
@@ -134,8 +134,8 @@ fn check_failing_calls(
     panic!(rt; "{line} fails at each call")
 }
 
-/// A dictionary has three calls: it is opened, taken and found to have ended. A certificate has as many where it is read, and
-/// where it is written it is begun, put in one piece or more and ended.
+/// A dictionary has three calls: it is opened, taken and found to have ended. A certificate has as many where it is
+/// read, and where it is written it is begun, put in one piece or more and ended.
 #[test]
 fn each_call_of_a_command_fails(rt: HostRuntime) -> Result<(), AllocError> {
     check_failing_calls(&rt, rt.alloc(), "audit 2 u", 3, 3)?;
@@ -147,8 +147,8 @@ fn each_call_of_a_command_fails(rt: HostRuntime) -> Result<(), AllocError> {
     check_failing_calls(&rt, rt.alloc(), "upgrade o n", 0, 5)
 }
 
-/// Runs a line over an output whose call of this number fails, and returns whether it was made. The output holds a prefix of
-/// what the line puts without a fault.
+/// Runs a line over an output whose call of this number fails, and returns whether it was made. The output holds a
+/// prefix of what the line puts without a fault.
 fn output_fails_at(
     rt: &(impl Abort + Threads + Wait + Sync),
     alloc: Global,

@@ -56,8 +56,8 @@ fn one_byte_over_the_limit(rt: HostRuntime) -> Result<(), AllocError> {
     check_bytes(&rt, rt.alloc(), &bytes, Status::Limit, line)
 }
 
-/// A key of 64 strokes (`~`) is read, and one of 65 (`^`) is refused after each value that is no text. A key with an unreadable
-/// part is skipped, however many parts it has.
+/// A key of 64 strokes (`~`) is read, and one of 65 (`^`) is refused after each value that is no text. A key with an
+/// unreadable part is skipped, however many parts it has.
 const LONG_KEYS: &str = r#"replay ~ d|d={"~": "x"}|0|~ "x"
 replay S d|d={"^": "x"}|5|limit outline file 1 "^" 65
 audit 1 d|d={"KAT": 1, "^": "x"}|4|refused file 1 not text "KAT"

@@ -1,7 +1,7 @@
 //! Rows, and how they are run.
 //!
-//! A row is a run: its arguments, its files, its status and its output, with `|` between them. Arguments stand with a space
-//! between two, files as `name=text` and lines of the output with `;` between two.
+//! A row is a run: its arguments, its files, its status and its output, with `|` between them. Arguments stand with a
+//! space between two, files as `name=text` and lines of the output with `;` between two.
 
 ghost use Rattle.std.specs.Prelude.{◌<◌, ◌^◌, All, IsTrue, string_len};
 
