@@ -97,6 +97,7 @@ impl<'a> Moves<'a> {
 
     /// The kept targets of a state, in time that follows their number: a stroke after which no word is open and the
     /// window is at most that stroke isn't looked at, but from a fresh start.
+    #[inline(always)]
     pub fn kept(
         trie: &'a Trie,
         windows: &'a Windows<'a>,
@@ -125,6 +126,7 @@ impl<'a> Moves<'a> {
     }
 
     /// The next target, None where none is left.
+    #[inline(always)]
     pub fn next(&mut self) -> Option<State>
         ensures entries { self.new.entries ≡ self.old.entries }
         ensures words { self.new.words ≡ self.old.words }

@@ -9,7 +9,8 @@ use std::marker::Model;
 /// The graph of the kept moves, by the numbers of states. A number without a state has no targets. It borrows the
 /// numbering.
 ///
-/// `first` and `next` are inlined into the search, so that a cursor stays in registers from one target to the next.
+/// `first` and `next` are inlined into the search, and so is what they call, so that a cursor stays in registers from one
+/// target to the next.
 #[derive(Drop)]
 pub struct ClosureGraph<'a> {
     numbering: &'a Numbering<'a>,

@@ -82,6 +82,7 @@ impl<'a> Numbering<'a> {
 
     /// The number of a state, found without a look-up. Of the open word only the number of its strokes is read, unless
     /// it is the longer list.
+    #[inline(always)]
     pub fn number(&self, state: State) -> u32
         requires { IsNodeState self.now.entries self.now.words state }
         ensures number { result
@@ -105,6 +106,7 @@ impl<'a> Numbering<'a> {
 
     /// The state of a number, None exactly where no state has it. A block of the index, a short scan, and one look-up a
     /// stroke of the shorter list.
+    #[inline(always)]
     pub fn state(&self, number: u32) -> Option<State>
         ensures { MatchOption result
             (state_of_number self.now.entries self.now.words number ≡ None)
@@ -160,6 +162,7 @@ impl<'a> Numbering<'a> {
     }
 
     /// The kept moves of the state of a number, None where none has it.
+    #[inline(always)]
     pub(crate) fn moves(&self, number: u32) -> Option<Moves<'a>>
         ensures left { numbers_left self.now result
             ≡ numbers_by self.now.entries (kept_targets self.now.entries self.now.words)
