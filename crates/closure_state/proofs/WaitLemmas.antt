@@ -17,7 +17,7 @@ use Rattle.outline_trie.proofs.LookLemmas.{root_is, root_inside}
 use Rattle.match_window.proofs.RowLemmas.{node_some}
 use Rattle.closure_state.specs.declared.state.State.{State}
 use Rattle.closure_state.specs.NodeStates.{state_at, IsNodeState}
-use Rattle.closure_state.specs.inside.Waits.{some_listed, listed_if}
+use Rattle.closure_state.specs.Waits.{some_listed, listed_if}
 
 -- a state with the mark one stroke later, if there is one and the flag is set
 abbrev pub later_if : Bool → ℕ → ℕ → Option (Option ℕ) → List State

@@ -1,3 +1,4 @@
 pub mod NodeStates
 pub mod Moving
+pub mod Waits
 pub mod inside

@@ -156,6 +156,7 @@ impl<'a> Chain<'a> {
     }
 
     /// The next stroke of the chain and the window to which it leads. The bound is past the last stroke.
+    #[inline(always)]
     pub(crate) fn next(
         &mut self,
         trie: &Trie,

@@ -31,4 +31,5 @@ mod word_set;
 pub use hits::hit;
 pub use moves::Moves;
 pub use state::{Hit, State, is_state};
+pub use waiting::Waiting;
 pub use word_set::WordSet;

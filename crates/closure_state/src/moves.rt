@@ -1,8 +1,10 @@
 //! The targets of a state, one after another.
-ghost use Rattle.std.specs.Prelude.{◌≡◌, MatchOption};
+ghost use Rattle.std.specs.Prelude.{◌≡◌, ◌++◌, MatchOption, [], map};
+ghost use Rattle.std.specs.List.{AllByRecursion};
 ghost use Rattle.steno_rules.specs.WordSets.{IsWordSet, words_in};
 ghost use Rattle.closure_state.specs.Moving.{IfNodeState, IsNextTarget};
-ghost use Rattle.closure_state.specs.NodeStates.{IsNodeState, kept_at, targets_at};
+ghost use Rattle.closure_state.specs.NodeStates.{IsNodeState, kept_at, state_at, targets_at};
+ghost use Rattle.closure_state.specs.Waits.{waits};
 ghost use Rattle.closure_state.specs.inside.Left.{IsChainDepth, IsRowState};
 
 use crate::chain::Chain;
@@ -35,7 +37,7 @@ impl<'a> Model for Moves<'a> {
     ghost use Rattle.closure_state.specs.NodeStates.{state_at};
     ghost use Rattle.closure_state.specs.inside.Invariants.{AreMoves};
     ghost use Rattle.closure_state.specs.inside.Strokes.{left_of};
-    ghost use Rattle.closure_state.specs.inside.Waits.{waits};
+    ghost use Rattle.closure_state.specs.Waits.{waits};
 
     ghost Value = { MovesView };
 
@@ -139,5 +141,27 @@ impl<'a> Moves<'a> {
                 .refill(self.trie, self.windows, self.words, self.state);
         }
         self.waiting.take()
+    }
+
+    /// The targets that are left by one stroke, those by the next one that has some where none are. Nothing where no
+    /// target is left.
+    #[inline(always)]
+    pub fn next_stroke(&mut self) -> Waiting
+        ensures entries { self.new.entries ≡ self.old.entries }
+        ensures words { self.new.words ≡ self.old.words }
+        ensures left { self.old.left
+            ≡ map (state_at self.old.entries) (waits result) ++ self.new.left }
+        ensures done { waits result ≡ [] → self.new.left ≡ [] }
+        ensures states { AllByRecursion
+            (IsNodeState self.old.entries self.old.words) (waits result) }
+    {
+        if self.waiting.is_empty() {
+            self.strokes
+                .refill(self.trie, self.windows, self.words, self.state)
+        } else {
+            let left = self.waiting;
+            self.waiting = Waiting::none();
+            left
+        }
     }
 }

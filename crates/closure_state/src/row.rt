@@ -15,6 +15,7 @@ pub(crate) struct Row<'a> {
 
 impl Row<'_> {
     /// The next child, with its stroke and the window after it.
+    #[inline(always)]
     pub(crate) fn next(&mut self, trie: &Trie, windows: &Windows<'_>, opened: u32) -> Option<Step>
         requires windows { windows.now ≡ trie.now }
         requires row { (x : List ℕ) × (bound : ℕ) × IsChildRow trie.now x opened bound self.old }

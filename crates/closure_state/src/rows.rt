@@ -21,6 +21,7 @@ pub(crate) enum Rows<'a> {
 
 impl Rows<'_> {
     /// The next stroke with its nodes. The bound is past the last one.
+    #[inline(always)]
     pub(crate) fn next(
         &mut self,
         trie: &Trie,

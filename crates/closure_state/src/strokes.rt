@@ -22,6 +22,7 @@ pub(crate) struct Strokes<'a> {
 
 impl Strokes<'_> {
     /// The next stroke.
+    #[inline(always)]
     fn next(&mut self, trie: &Trie, windows: &Windows<'_>, state: State) -> Option<Step>
         requires windows { windows.now ≡ trie.now }
         requires word { IsNode trie.now state.word }

@@ -5,7 +5,8 @@ ghost use Rattle.steno_rules.specs.WordSets.{IsWordSet, words_in};
 ghost use Rattle.outline_trie.specs.Tries.{IsNode, node_strokes};
 ghost use Rattle.closure_state.specs.NodeStates.{IsNodeState};
 ghost use Rattle.closure_state.specs.inside.Steps.{IsStepOf};
-ghost use Rattle.closure_state.specs.inside.Waits.{AreTargetsBy, IsTaken, waits, some_listed, listed_if};
+ghost use Rattle.closure_state.specs.inside.Waits.{AreTargetsBy, IsTaken};
+ghost use Rattle.closure_state.specs.Waits.{listed_if, some_listed, waits};
 
 use crate::state::State;
 use crate::step::Step;
@@ -14,14 +15,20 @@ use outline_trie::Trie;
 
 /// Which of the three targets by a stroke are left: with the open word going on, with the word ended and the former
 /// mark one stroke later, and with the word ended and a new mark. All of them have one window.
-#[derive(Drop)]
-pub(crate) struct Waiting {
-    pub(crate) window: u32,
-    pub(crate) word: u32,
-    pub(crate) mark: Option<u8>,
-    pub(crate) going_on: bool,
-    pub(crate) ended: bool,
-    pub(crate) marked: bool,
+#[derive(Clone, Copy, Debug, PartialEq, Eq)]
+pub struct Waiting {
+    /// The node of the window of all three.
+    pub window: u32,
+    /// The node of the open word of the first.
+    pub word: u32,
+    /// The mark of the first two.
+    pub mark: Option<u8>,
+    /// Whether the first is left.
+    pub going_on: bool,
+    /// Whether the second is left.
+    pub ended: bool,
+    /// Whether the third is left.
+    pub marked: bool,
 }
 
 /// The mark one stroke later, None where it doesn't lie in the window any more.
@@ -64,7 +71,7 @@ impl Waiting {
     }
 
     /// Whether no target is left.
-    pub(crate) fn is_empty(&self) -> bool
+    pub fn is_empty(&self) -> bool
         ensures { IsTrue result ↔ (waits self.now ≡ []) }
     {
         !self.going_on && !self.ended && !self.marked

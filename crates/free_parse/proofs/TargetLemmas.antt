@@ -9,7 +9,7 @@ use Rattle.steno_rules.specs.StateNumbers.{place_of}
 use Rattle.steno_rules.proofs.NodeLemmas.{nodes-rising}
 use Rattle.steno_rules.proofs.Numbers.{outline_of-once}
 use Rattle.closure_laws.proofs.StateNumberLemmas.{place_inside, place_there}
-use Rattle.closure_state.specs.inside.Waits.{some_listed}
+use Rattle.closure_state.specs.Waits.{some_listed}
 use Rattle.outline_trie.specs.Tries.{IsNode, node_strokes}
 use Rattle.reading_laws.specs.Forks.{Fork, Same, Differ, End, targets_of_same, targets_of_two}
 use Rattle.reading_laws.specs.ForkNumbers.{end_number, fork_number, fork_start}

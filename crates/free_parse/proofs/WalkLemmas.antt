@@ -8,7 +8,7 @@ use Rattle.steno_rules.proofs.NodeLemmas.{nodes-Contains}
 use Rattle.steno_rules.proofs.Numbers.{entry_number-Some, number_test}
 use Rattle.steno_rules.proofs.Words.{word_is_entry}
 use Rattle.closure_laws.specs.Examples.{source_of, trail}
-use Rattle.closure_state.specs.inside.Waits.{some_listed}
+use Rattle.closure_state.specs.Waits.{some_listed}
 use Rattle.reading_laws.specs.ChosenReadings.{AreShortest, Halves, both_ended, chosen_halves, halves_after, halves_on, last_strokes_by, newest, no_halves, open_fork}
 use Rattle.reading_laws.specs.ForkNumbers.{end_number, fork_at, fork_count, fork_lists}
 use Rattle.reading_laws.specs.Forks.{Fork, Same}

@@ -4,13 +4,14 @@ ghost use Rattle.std.specs.Prelude.{◌≡◌};
 use crate::numbering::Numbering;
 use closure_state::Moves;
 use round_core::StepGraph;
+use std::alloc::AllocError;
 use std::marker::Model;
 
 /// The graph of the kept moves, by the numbers of states. A number without a state has no targets. It borrows the
 /// numbering.
 ///
-/// `first` and `next` are inlined into the search, and so is what they call, so that a cursor stays in registers from one
-/// target to the next.
+/// A state's targets are listed stroke by stroke. What lists them is inlined, so that the cursor stays in registers from
+/// one stroke to the next.
 #[derive(Drop)]
 pub struct ClosureGraph<'a> {
     numbering: &'a Numbering<'a>,
@@ -72,6 +73,19 @@ impl<'a> StepGraph for ClosureGraph<'a> {
             },
             None => None,
         }
+    }
+
+    #[inline(always)]
+    fn push_targets(&self, state: u32, targets: &mut Vec<u32>) -> Result<(), AllocError> {
+        let Some(mut moves) = self.numbering.moves(state) else {
+            return Ok(())
+        };
+        let mut waiting = moves.next_stroke();
+        'strokes: while !waiting.is_empty() {
+            self.numbering.push_numbers(waiting, targets)?;
+            waiting = moves.next_stroke();
+        }
+        Ok(())
     }
 
     /// The states with one open word lead to the same children of its node, and mostly to the same numbers.

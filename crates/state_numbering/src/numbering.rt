@@ -1,5 +1,6 @@
 //! From states to numbers and back.
-ghost use Rattle.std.specs.Prelude.{◌≡◌, ◌<◌, ◌≤◌, ◌^◌, IfErr, IfOk, MatchOption, None, false, length};
+ghost use Rattle.std.specs.Prelude.{◌≡◌, ◌++◌, ◌<◌, ◌≤◌, ◌^◌, IfErr, IfOk, MatchOption, None, false, length};
+ghost use Rattle.std.specs.List.{AllByRecursion};
 ghost use Rattle.steno_rules.specs.ClosureGraphs.{numbers_by};
 ghost use Rattle.steno_rules.specs.Outlines.{AreWords, entry_number};
 ghost use Rattle.steno_rules.specs.States.{kept_targets};
@@ -7,19 +8,20 @@ ghost use Rattle.steno_rules.specs.StateNumbers.{longer, number_count, state_num
 ghost use Rattle.steno_rules.specs.WordSets.{IsWordSet};
 ghost use Rattle.outline_trie.specs.Tries.{IsNode, node_strokes, suffix_of};
 ghost use Rattle.closure_state.specs.NodeStates.{IsNodeState, state_at};
+ghost use Rattle.closure_state.specs.Waits.{waits};
 ghost use Rattle.state_numbering.specs.ByNumber.{HasNoHit, HasNoStroke, IsHitOf, IsOpenWordOf, IsStateOf, IsStrokeInto};
 ghost use Rattle.state_numbering.specs.Causes.{IsNumberCause, most_states};
-ghost use Rattle.state_numbering.specs.Cursors.{OwnsMoves, numbers_left};
+ghost use Rattle.state_numbering.specs.Cursors.{OwnsMoves, numbers_at, numbers_left};
 ghost use Rattle.state_numbering.specs.Following.{followed};
 ghost use Rattle.state_numbering.specs.Numberings.{numbering_of};
 
 use crate::fault::NumberFault;
 use crate::offset::{Lengths, lengths_at, offset_of};
 use crate::parts::Parts;
-use closure_state::{Hit, Moves, State, WordSet, hit};
+use closure_state::{Hit, Moves, State, Waiting, WordSet, hit};
 use match_window::Windows;
 use outline_trie::Trie;
-use std::alloc::Global;
+use std::alloc::{AllocError, Global};
 use std::marker::Model;
 use stroke::Stroke;
 
@@ -174,6 +176,35 @@ impl<'a> Numbering<'a> {
             Some(state) => Some(Moves::kept(self.trie, self.windows, self.words, &state)),
             None => None,
         }
+    }
+
+    /// Lists the numbers of the targets that wait behind what is listed already.
+    #[inline(always)]
+    pub(crate) fn push_numbers(
+        &self,
+        waiting: Waiting,
+        numbers: &mut Vec<u32>,
+    ) -> Result<(), AllocError>
+        requires { AllByRecursion (IsNodeState self.now.entries self.now.words) (waits waiting) }
+        ensures { IfOk result (λ _. numbers.new.items
+            ≡ numbers.old.items ++ numbers_at self.now.entries (waits waiting)) }
+    {
+        let window = waiting.window;
+        let mark = waiting.mark;
+        if waiting.going_on {
+            let word = waiting.word;
+            numbers.push(self.number(State { window, word, mark }))?;
+        }
+        if waiting.ended {
+            let word = 0;
+            numbers.push(self.number(State { window, word, mark }))?;
+        }
+        if waiting.marked {
+            let word = 0;
+            let mark = Some(0);
+            numbers.push(self.number(State { window, word, mark }))?;
+        }
+        Ok(())
     }
 
     /// The last stroke of the longer of the two lists of a number's state, u where they are of equal length. None

@@ -103,7 +103,7 @@ order_length has_rank xs ys o = length_permutation xs ys o.same
 
 -- the numbers of a round in another order are one,
 pub order_round : (has_rank : ℕ → ℕ → Type 0) (t : TableView) (k : ℕ) (xs ys : List ℕ) → IsOrdered has_rank xs ys → IsRound t k xs → IsRound t k ys
-order_round has_rank t k xs ys o r = (r.0, λ i s at. (let h = has_order has_rank xs ys s o (i, at) in r.1 h.0 s h.1))
+order_round has_rank t k xs ys o r = (r.0, (λ i s at. (let h = has_order has_rank xs ys s o (i, at) in r.1 h.0 s h.1)), r.2)
 
 -- what was worked in one order was worked in the other,
 pub order_worked : (has_rank : ℕ → ℕ → Type 0) (t : TableView) (k : ℕ) (xs ys : List ℕ) (seen now : List Call) (notes : List ℕ) → IsOrdered has_rank xs ys →

@@ -1,7 +1,8 @@
 -- Moves that stand in histories that grow.
-use Rattle.std.proofs.Common.{◌≡◌, ℕ, ◌+◌, ◌*◌, ◌<◌, ◌≤◌, ◌⊎◌, true, List, [], ◌∷◌, ◌++◌, length, Some, refl, ap, sym, subst, ◌∙◌, ⊎_elim, inl, inr, arith, append_assoc, length-append}
+use Rattle.std.proofs.Common.{◌≡◌, ℕ, ◌+◌, ◌*◌, ◌<◌, ◌≤◌, ◌⊎◌, true, List, [], ◌∷◌, ◌++◌, length, get_or, Some, refl, ap, sym, subst, ◌∙◌, ⊎_elim, inl, inr, arith, append_assoc, length-append}
 use Rattle.std.specs.Prelude.{slice_get}
 use Rattle.std.proofs.lemmas.List.{append-nil}
+use Rattle.std.proofs.lemmas.Option.{slice_get-get_or}
 use mathlib.Core.List.{IsPrefix}
 use Rattle.graph_rules.specs.Graphs.{HasTarget, row, moved, Stands}
 use Rattle.round_core.specs.Rounds.{Has}
@@ -109,17 +110,15 @@ passing_next t k s all left u seen now notes more p q h r = (
   λ i x e. ⊎_elim (λ at. relaxed_more t k seen now notes more s x p q (h.2 i x at)) (λ (same : u ≡ x). subst (λ y. Relaxed t k now more s y) same r) (get_snoc h.0 u x i e),
 )
 
-target_there : (t : TableView) (k s : ℕ) (all left : List ℕ) (u : ℕ) (seen : List Call) (notes : List ℕ) → Passing t k s all (u ∷ left) seen notes → (i : ℕ) × (slice_get all i ≡ Some u)
-target_there t k s all left u seen notes h = (length h.0, subst (λ l. slice_get l (length h.0) ≡ Some u) h.1 (get_last h.0 u left))
-
 passed_all : (t : TableView) (k s : ℕ) (all : List ℕ) (seen : List Call) (notes : List ℕ) → Passing t k s all [] seen notes → (u : ℕ) → ((i : ℕ) × (slice_get all i ≡ Some u)) → Relaxed t k seen notes s u
 passed_all t k s all seen notes h u edge = h.2 edge.0 u (subst (λ l. slice_get l edge.0 ≡ Some u) (sym h.1 ∙ append-nil h.0) edge.1)
 
 passing_at : (t : TableView) (k s : ℕ) (all l m : List ℕ) (seen : List Call) (notes : List ℕ) → l ≡ m → Passing t k s all l seen notes → Passing t k s all m seen notes
 passing_at t k s all l m seen notes e h = subst (λ x. Passing t k s all x seen notes) e h
 
-pub there_at : (t : TableView) (k s : ℕ) (all left rest : List ℕ) (u : ℕ) (seen : List Call) (notes : List ℕ) → left ≡ u ∷ rest → Passing t k s all left seen notes → (i : ℕ) × (slice_get all i ≡ Some u)
-there_at t k s all left rest u seen notes e h = target_there t k s all rest u seen notes (passing_at t k s all left (u ∷ rest) seen notes e h)
+-- what is listed is a target
+pub listed_target : (t : TableView) (s : ℕ) (targets : List ℕ) (i : ℕ) → targets ≡ row t.lists s → i < length targets → HasTarget t.lists s (get_or targets i 0)
+listed_target t s targets i are lt = (i, subst (λ (l : List ℕ). slice_get l i ≡ Some (get_or targets i 0)) are (slice_get-get_or targets i 0 lt))
 
 pub all_at : (t : TableView) (k s : ℕ) (all left : List ℕ) (seen : List Call) (notes : List ℕ) → left ≡ [] → Passing t k s all left seen notes → (u : ℕ) → ((i : ℕ) × (slice_get all i ≡ Some u)) → Relaxed t k seen notes s u
 all_at t k s all left seen notes e h = passed_all t k s all seen notes (passing_at t k s all left [] seen notes e h)

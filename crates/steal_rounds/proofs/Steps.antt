@@ -1,7 +1,5 @@
 -- The steps of a search, over plain data.
-use Rattle.std.proofs.Common.{◌≡◌, ℕ, suc, ◌+◌, ◌<◌, ◌≤◌, List, [], ◌∷◌, length, Some, sym, subst, arith, refl}
-use Rattle.std.specs.Prelude.{slice_get}
-use Rattle.graph_rules.specs.Graphs.{Reaches}
+use Rattle.std.proofs.Common.{◌≡◌, ℕ, suc, ◌+◌, ◌<◌, ◌≤◌, List, [], ◌∷◌, length, sym, subst, arith, refl}
 use Rattle.graph_rules.proofs.Distances.{best_below}
 use Rattle.round_core.specs.Rounds.{Has, AreRisingNumbers}
 use Rattle.round_core.specs.Machines.{IsGraph}
@@ -9,6 +7,7 @@ use Rattle.dist_table.specs.declared.call.Call.{Call}
 use Rattle.dist_table.specs.Tables.{TableView, PassView, LeavesWords}
 use Rattle.dist_table.specs.Histories.{IsLegal}
 use Rattle.round_core.specs.inside.InRounds.{moves_of}
+use Rattle.steal_rounds.specs.inside.Crews.{IsRound}
 use Rattle.steal_rounds.specs.inside.Fronts.{IsBeforeRound, IsWorked, IsCounted}
 use Rattle.graph_rules.specs.Graphs.{row, AreSettled}
 use Rattle.graph_rules.specs.Relaxed.{AreRelaxed}
@@ -32,10 +31,11 @@ here (x ∷ xs) lt = (x, (0, refl))
 pub within_count : (t : TableView) (k : ℕ) (front : List ℕ) (seen : List Call) → IsBeforeRound t k front seen → 0 < length front → k < length t.lists
 within_count t k front seen r some = let s = here front some in let b = r.frontier.best s.0 s.1 in best_below t.origin t.lists s.0 k b.0 b.1
 
-pub is_round : (t : TableView) (k : ℕ) (front : List ℕ) (seen : List Call) → IsGraph t.origin t.lists → IsBeforeRound t k front seen → 0 < length front → (k < 2147483648) × ((i s : ℕ) → slice_get front i ≡ Some s → (s < length t.lists) × Reaches t.origin t.lists k s)
+pub is_round : (t : TableView) (k : ℕ) (front : List ℕ) (seen : List Call) → IsGraph t.origin t.lists → IsBeforeRound t k front seen → 0 < length front → IsRound t k front
 is_round t k front seen g r some = (
   (let w = within_count t k front seen r some in let f = g.few in omega (arith, w, f)),
-  λ i s at. (let b = r.frontier.best s (i, at) in (b.0, (b.1).walk)),
+  (λ i s at. (let b = r.frontier.best s (i, at) in (b.0, (b.1).walk))),
+  g.targets,
 )
 
 pub few_front : (t : TableView) (k : ℕ) (front : List ℕ) (seen : List Call) → IsGraph t.origin t.lists → IsBeforeRound t k front seen → length front ≤ 33554432

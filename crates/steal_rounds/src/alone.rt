@@ -38,7 +38,9 @@ pub(crate) fn work_alone<R: Wait, G: StepGraph, K: Gate>(
     ensures counted { IfOk result (λ r. r.1 ≡ moves_of table.now.lists frontier.now) }
 {
     let mut notes = Vec::new(alloc);
-    let moves = spread_gated(rt, graph, table, gate, pass, frontier, distance, &mut notes)?;
+    let moves = spread_gated(
+        rt, alloc, graph, table, gate, pass, frontier, distance, &mut notes,
+    )?;
     notes.sort_unstable();
     Ok((notes, moves))
 }
@@ -46,6 +48,7 @@ pub(crate) fn work_alone<R: Wait, G: StepGraph, K: Gate>(
 /// Makes each move of each state, and answers how many.
 fn spread_gated<R: Wait, G: StepGraph, K: Gate>(
     rt: &R,
+    alloc: Global,
     graph: &G,
     table: &DistTable<G>,
     gate: &K,
@@ -66,10 +69,19 @@ fn spread_gated<R: Wait, G: StepGraph, K: Gate>(
         (λ _. Worked table.now distance pass.new.seen notes.new.items frontier.now) }
     ensures count { IfOk result (λ moves. moves ≡ moves_of table.now.lists frontier.now) }
 {
+    let mut targets = Vec::new(alloc);
     let mut moves = 0;
     for place in 0..frontier.len() {
         knock(rt, gate, distance, place);
-        moves += spread(graph, table, distance, frontier[place], pass, notes)?;
+        moves += spread(
+            graph,
+            table,
+            distance,
+            frontier[place],
+            pass,
+            &mut targets,
+            notes,
+        )?;
     }
     Ok(moves)
 }

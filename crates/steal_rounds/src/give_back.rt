@@ -12,6 +12,7 @@ use crate::member::CrewMember;
 use crate::work::work;
 use dist_table::DistTable;
 use round_core::StepGraph;
+use std::alloc::Global;
 use std::sync::Wait;
 
 /// Gives each thief back to its deque. The thieves of the first deque come first: each worker's list of thieves has
@@ -58,6 +59,7 @@ fn take_back(crew: &mut Vec<CrewMember>, victim: usize, worker: usize)
 /// taken.
 pub(crate) fn work_rest<R: Wait, G: StepGraph, K: Gate>(
     rt: &R,
+    alloc: Global,
     graph: &G,
     table: &DistTable<G>,
     gate: &K,
@@ -74,6 +76,7 @@ pub(crate) fn work_rest<R: Wait, G: StepGraph, K: Gate>(
     for worker in 0..crew.len() {
         work(
             rt,
+            alloc,
             graph,
             table,
             gate,

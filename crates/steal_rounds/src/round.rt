@@ -28,6 +28,7 @@ use std::thread::Threads;
 /// Each worker works batches until there is none to take.
 fn run_round<R: Threads + Wait + Sync, G: StepGraph + Sync, K: Gate + Sync>(
     rt: &R,
+    alloc: Global,
     graph: &G,
     table: &DistTable<G>,
     gate: &K,
@@ -43,6 +44,7 @@ where
     ensures { Each (Turned table.now distance frontier.now) crew.old crew.new }
 {
     let round = Round {
+        alloc,
         graph: &*graph,
         table: &*table,
         gate: &*gate,
@@ -113,6 +115,7 @@ where
     let mut crew = make_crew(alloc, table, pass, workers.min(batches), batches)?;
     run_round(
         rt,
+        alloc,
         graph,
         table,
         gate,
@@ -121,7 +124,7 @@ where
         crew.as_mut_slice(),
     );
     take_back_all(&mut crew);
-    work_rest(rt, graph, table, gate, frontier, distance, &mut crew);
+    work_rest(rt, alloc, graph, table, gate, frontier, distance, &mut crew);
     let found = collect(alloc, crew.as_slice());
     join_all(table, pass, crew);
     found

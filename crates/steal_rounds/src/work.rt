@@ -12,12 +12,14 @@ use crate::spread::spread_all;
 use crate::turn::Turn;
 use dist_table::DistTable;
 use round_core::StepGraph;
+use std::alloc::Global;
 use std::sync::Wait;
 use steal_batches::{BatchThief, Receipt};
 
 /// What all workers of a round share.
 #[derive(Drop)]
 pub(crate) struct Round<'a, 't, G: StepGraph, K: Gate> {
+    pub(crate) alloc: Global,
     pub(crate) graph: &'a G,
     pub(crate) table: &'a DistTable<'t, G>,
     pub(crate) gate: &'a K,
@@ -39,6 +41,7 @@ impl<'a, 't, G: StepGraph, K: Gate> Turn<CrewMember> for Round<'a, 't, G, K> {
     fn turn<R: Wait>(&self, rt: &R, member: &mut CrewMember) {
         work(
             rt,
+            self.alloc,
             self.graph,
             self.table,
             self.gate,
@@ -53,6 +56,7 @@ impl<'a, 't, G: StepGraph, K: Gate> Turn<CrewMember> for Round<'a, 't, G, K> {
 /// Works batches until there is none to take.
 pub(crate) fn work<R: Wait, G: StepGraph, K: Gate>(
     rt: &R,
+    alloc: Global,
     graph: &G,
     table: &DistTable<G>,
     gate: &K,
@@ -65,8 +69,18 @@ pub(crate) fn work<R: Wait, G: StepGraph, K: Gate>(
     requires pass { IsLegalPass table.now member.old.pass }
     ensures { Turned table.now distance frontier.now member.old member.new }
 {
+    let mut targets = Vec::new(alloc);
     for _ in rt.forever() {
-        if !work_one(rt, graph, table, gate, frontier, distance, member) {
+        if !work_one(
+            rt,
+            graph,
+            table,
+            gate,
+            frontier,
+            distance,
+            &mut targets,
+            member,
+        ) {
             return;
         }
     }
@@ -81,6 +95,7 @@ fn work_one<R: Wait, G: StepGraph, K: Gate>(
     gate: &K,
     frontier: &[u32],
     distance: u32,
+    targets: &mut Vec<u32>,
     member: &mut CrewMember,
 ) -> bool
     requires graph { HasGraph table.now (G.origin graph.now) (G.lists graph.now) }
@@ -101,6 +116,7 @@ fn work_one<R: Wait, G: StepGraph, K: Gate>(
         distance,
         states,
         &mut member.pass,
+        targets,
         &mut member.notes,
     ) {
         Ok(moves) => match member.moves.checked_add(moves) {

@@ -6,7 +6,7 @@ use Rattle.closure_state.specs.declared.state.State.{State}
 use Rattle.closure_state.specs.declared.strokes.Strokes.{Strokes}
 use Rattle.closure_state.specs.declared.waiting.Waiting.{Waiting}
 use Rattle.closure_state.specs.inside.Strokes.{AreStrokes}
-use Rattle.closure_state.specs.inside.Waits.{waits}
+use Rattle.closure_state.specs.Waits.{waits}
 use Rattle.closure_state.specs.NodeStates.{IsNodeState}
 
 pub record AreMoves (told entries : List (List ℕ)) (set : WordFlags) (s : State) (strokes : Strokes) (waiting : Waiting) : Type 0 where

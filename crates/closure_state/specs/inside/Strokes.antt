@@ -14,7 +14,7 @@ use Rattle.closure_state.specs.declared.waiting.Waiting.{Waiting}
 use Rattle.closure_state.specs.inside.Left.{targets_from}
 use Rattle.closure_state.specs.inside.Rows.{AreStateRows, lists_all}
 use Rattle.closure_state.specs.inside.Steps.{IsStepBy}
-use Rattle.closure_state.specs.inside.Waits.{waits}
+use Rattle.closure_state.specs.Waits.{waits}
 use Rattle.closure_state.specs.NodeStates.{state_at, IsNodeState}
 
 abbrev pub left_of : List (List ℕ) → List (List ℕ) → State → Strokes → List Abstract

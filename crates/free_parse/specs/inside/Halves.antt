@@ -3,7 +3,7 @@
 --     AreNumbersOf entries h n    the numbers are those of the words of h
 use Rattle.std.specs.Prelude.{ℕ, ◌≡◌, List, flat_map}
 use Rattle.steno_rules.specs.Outlines.{entry_number}
-use Rattle.closure_state.specs.inside.Waits.{some_listed}
+use Rattle.closure_state.specs.Waits.{some_listed}
 use Rattle.reading_laws.specs.ChosenReadings.{Halves, both_ended, halves_after, last_strokes_by, newest}
 use Rattle.reading_laws.specs.Forks.{Fork}
 use Rattle.free_parse.specs.declared.halves.NumberedHalves.{NumberedHalves}

@@ -3,7 +3,7 @@
 --     waits_for w              the numbers that wait, in their order
 --     IsTakenFrom old t new    the first of a list is taken; of an empty one none is
 use Rattle.std.specs.Prelude.{ℕ, List, [], ◌∷◌, ◌++◌, ◌≡◌, Bool, true, false, Option, Some, None}
-use Rattle.closure_state.specs.inside.Waits.{some_listed}
+use Rattle.closure_state.specs.Waits.{some_listed}
 use Rattle.free_parse.specs.declared.waiting.Waiting.{Waiting}
 
 abbrev pub number_if : Bool → ℕ → Option ℕ

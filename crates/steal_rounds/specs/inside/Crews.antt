@@ -8,14 +8,15 @@ use Rattle.dist_table.specs.Tables.{TableView, IsSamePass}
 use Rattle.steal_rounds.specs.inside.Moves.{IsLegalPass}
 use Rattle.steal_batches.specs.Deques.{DequeView, ThiefView, AreAllTaken}
 use Rattle.steal_rounds.specs.declared.member.CrewMember.{CrewMember}
-use Rattle.steal_rounds.specs.inside.Moves.{batch_states_of, Worked, AddsFound}
+use Rattle.steal_rounds.specs.inside.Moves.{batch_states_of, Worked, AddsFound, HasInside}
 use Rattle.round_core.specs.inside.InRounds.{moves_of}
 
--- the round: each state of its frontier is reached at its distance
+-- the round: each state of its frontier is reached at its distance, and each target is a number
 abbrev pub IsRound : TableView → ℕ → List ℕ → Type 0
 IsRound t k frontier =
     (k < DISTANCES)
     × ((i s : ℕ) → slice_get frontier i ≡ Some s → (s < length t.lists) × Reaches t.origin t.lists k s)
+    × HasInside t
 
 -- one of the thieves took the batch
 abbrev pub Stole : List ThiefView → ℕ → Type 0

@@ -15,6 +15,10 @@ Relaxed t k seen notes s u =
     × Stands t.origin t.lists u reply
     × ((reply < moved k s) ⊎ Has notes u)
 
+-- each target is a number of the graph
+abbrev pub HasInside : TableView → Type 0
+HasInside t = (s u : ℕ) → HasTarget t.lists s u → u < length t.lists
+
 -- each move of s was made
 abbrev pub Spread : TableView → ℕ → List Call → List ℕ → ℕ → Type 0
 Spread t k seen notes s = (u : ℕ) → HasTarget t.lists s u → Relaxed t k seen notes s u

@@ -1,7 +1,6 @@
-use Rattle.std.proofs.Common.{◌≡◌, ℕ, ◌<◌, ◌≤◌, ◌++◌, List, [], ◌∷◌, length, Some, sym, subst, ap, ◌∙◌, arith, All}
-use Rattle.std.specs.Prelude.{slice_get}
-use Rattle.graph_rules.specs.Graphs.{Reaches}
+use Rattle.std.proofs.Common.{ℕ, ◌<◌, ◌≤◌, ◌++◌, List, [], ◌∷◌, length, sym, subst, ap, ◌∙◌, arith, All}
 use Rattle.round_core.specs.inside.InRounds.{moves_of}
+use Rattle.steal_rounds.specs.inside.Crews.{IsRound}
 use Rattle.steal_rounds.specs.inside.Fronts.{IsBeforeRound, IsWorked}
 use Rattle.steal_rounds.specs.inside.Orders.{IsOrdered}
 use Rattle.steal_rounds.proofs.Lists.{all_of}
@@ -47,7 +46,7 @@ work_round-requires-clause-round g c κs within =
     let has_rank = g.G.StepGraph.has_rank c.args.graph.now in
     let order = c.in_ok-order.order.items in
     let o = subst (λ (l : List ℕ). IsOrdered has_rank l order) c.as_slice.ensures.value c.in_ok-order.ensures in
-    subst (λ (l : List ℕ). (c.search.rounds < 2147483648) × ((i s : ℕ) → slice_get l i ≡ Some s → (s < length t.lists) × Reaches t.origin t.lists c.search.rounds s)) (sym c.as_slice-in-search.ensures.value)
+    subst (λ (l : List ℕ). IsRound t c.search.rounds l) (sym c.as_slice-in-search.ensures.value)
     (order_round has_rank t c.search.rounds front order o (is_round t c.search.rounds front c.search.pass.seen graph c.search.invariant.ready some))
 
 pub work_round-requires-clause-size : goal.work_round-requires-clause-size

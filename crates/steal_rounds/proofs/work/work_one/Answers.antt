@@ -11,7 +11,7 @@ returns-in_default-clause-works g c = works_same c.args.table.now c.args.distanc
     (λ b took. ⊎_elim (λ none. absurd (true≢false (sym none.1))) (λ (old : Took c.args.member.now b). old) (c.in_default.ensures.took b took)) c.in_default.ensures.none c.requires.pass
 
 pub spread_all-requires-clause-round : goal.spread_all-requires-clause-round
-spread_all-requires-clause-round g c = (c.requires.round.0, λ i s at. let j = batch_get c.args.frontier.now c.in-Some.receipt.batch i s (subst (λ (l : List ℕ). slice_get l i ≡ Some s) c.batch_states-states.ensures.states at) in c.requires.round.1 j.0 s j.1)
+spread_all-requires-clause-round g c = (c.requires.round.0, (λ i s at. let j = batch_get c.args.frontier.now c.in-Some.receipt.batch i s (subst (λ (l : List ℕ). slice_get l i ≡ Some s) c.batch_states-states.ensures.states at) in c.requires.round.1 j.0 s j.1), c.requires.round.2)
 
 pub returns-in-Some-checked_add-clause-works : goal.returns-in-Some-checked_add-clause-works
 returns-in-Some-checked_add-clause-works g c =

@@ -4,7 +4,7 @@ use Rattle.steno_rules.specs.States.{targets_by}
 use Rattle.steno_rules.specs.WordSets.{words_in}
 use Rattle.closure_state.specs.NodeStates.{state_at, IsNodeState}
 use Rattle.closure_state.specs.inside.Strokes.{IsStrokesStep, left_of}
-use Rattle.closure_state.specs.inside.Waits.{waits}
+use Rattle.closure_state.specs.Waits.{waits}
 use Rattle.closure_state.proofs.strokes.Strokes.refill.Goals as goal
 
 pub waiting_of-waiting-requires-clause-step : goal.waiting_of-waiting-requires-clause-step
